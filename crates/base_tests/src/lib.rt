@@ -1,0 +1,8 @@
+//! What no contract says of the lowest crates: vectors from outside, and each call once.
+
+#![tactic(auto)]
+
+#[cfg(test)]
+mod base;
+#[cfg(test)]
+mod outside;

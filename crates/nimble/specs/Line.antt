@@ -1,0 +1,42 @@
+-- A line of a script, from its words.
+use Rattle.std.specs.Prelude.{ℕ, ◌&&◌, List, [], ◌∷◌, length, drop, Option, Some, None, option_and_then, nat_lt, nat_le, ◌==◌, if◌then◌else◌, codes}
+use Rattle.std.specs.Option.{option_map}
+use Rattle.std.specs.List.{slice_split}
+use Rattle.std.specs.Str.{bytes_eq}
+use Rattle.nimble.specs.Words.{words, number, is_name, is_payload}
+
+-- `genesis` with its ids; `new` with its client, label and payload; `append` with its client, label, height and
+-- payload; `end`. A payload stands without its `=`.
+pub data Line : Type 0 where
+  Genesis : List ℕ → Line
+  New : List ℕ → List ℕ → List ℕ → Line
+  Append : List ℕ → List ℕ → ℕ → List ℕ → Line
+  End : Line
+
+-- a number above `low` and at most 64
+abbrev pub id_above : ℕ → List ℕ → Option ℕ
+id_above low word = option_and_then (λ n. if nat_lt low n && nat_le n 64 then Some n else None) (number word)
+
+-- ids, each above the one before
+abbrev pub rising : ℕ → List (List ℕ) → Option (List ℕ)
+rising low [] = Some []
+rising low (word ∷ words) = option_and_then (λ n. option_map (λ ns. n ∷ ns) (rising n words)) (id_above low word)
+
+-- 1 to 15 numbers from 1 to 64, strictly rising, joined by commas
+abbrev pub ids : List ℕ → Option (List ℕ)
+ids word = let parts = slice_split (λ b. b == 44) word in if nat_le (length parts) 15 then rising 0 parts else None
+
+-- a number from 1 to 4,294,967,295
+abbrev pub height : List ℕ → Option ℕ
+height word = option_and_then (λ n. if nat_lt 0 n && nat_le n 4294967295 then Some n else None) (number word)
+
+-- the line that these words make
+abbrev pub line_of_words : List (List ℕ) → Option Line
+line_of_words (a ∷ []) = if bytes_eq a (codes "end") then Some End else None
+line_of_words (a ∷ b ∷ []) = if bytes_eq a (codes "genesis") then option_map (λ ns. Genesis ns) (ids b) else None
+line_of_words (a ∷ b ∷ c ∷ d ∷ []) = if bytes_eq a (codes "new") && (is_name b && (is_name c && is_payload d)) then Some (New b c (drop 1 d)) else None
+line_of_words (a ∷ b ∷ c ∷ d ∷ e ∷ []) = if bytes_eq a (codes "append") && (is_name b && (is_name c && is_payload e)) then option_map (λ h. Append b c h (drop 1 e)) (height d) else None
+line_of_words _ = None
+
+unfoldable pub line_of : List ℕ → Option Line
+line_of line = line_of_words (words line)
