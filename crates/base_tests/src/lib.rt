@@ -5,4 +5,6 @@
 #[cfg(test)]
 mod base;
 #[cfg(test)]
+mod chains;
+#[cfg(test)]
 mod outside;

@@ -1,8 +1,14 @@
 mod Arity
 mod Bytes
+mod Carried
+mod Collisions
+mod EndorserLemmas
+mod Going
 mod Joined
 mod Known
+mod LedgerLemmas
 mod Numbers
-mod Plain
 mod Reading
 mod Saying
+mod ServiceLemmas
+mod Within

@@ -1,15 +1,12 @@
 -- What the clauses of a run follow from.
-use Rattle.std.proofs.Common.{◌≡◌, ℕ, ◌<◌, List, ◌++◌, length, take, drop, map, Option, None, Some, IfSome, refl, sym, ap, subst, ◌∙◌, arith, inl, inr}
-use Rattle.std.specs.Option.{is_some}
-use Rattle.std.specs.List.{flat_map, concat}
-use Rattle.std.specs.Io.KnownBytes.{Appends, Consumes}
+use Rattle.std.proofs.Common.{◌≡◌, inl, inr, ℕ, ◌≤◌, ◌<◌, List, ◌∷◌, [], ◌++◌, length, take, drop, Option, None, Some, IfSome, refl, sym, ap, subst, ◌∙◌, arith, Contains}
+use Rattle.std.specs.List.{flat_map}
+use Rattle.std.specs.Io.KnownBytes.{Appends, Consumes, Keeps}
 use Rattle.std.proofs.lemmas.List.{append_cancel_left, length-take, take-append-drop, take_all}
 use Rattle.std.proofs.lemmas.Bool.{lt-leb, cases_lt}
 use Rattle.nimble.specs.Line.{Line}
 use Rattle.nimble.specs.Script.{script_of}
-use Rattle.nimble.specs.Replies.{empty, replies}
-use Rattle.nimble.specs.Ends.{said, said_of, IsJudged, IsScript, IsNoScript, SaysAll, SaysFront}
-use Rattle.nimble.proofs.Known.{Appends_nil, concat-map}
+use Rattle.nimble.specs.Ends.{IsSaid, IsJudged, Says, SaysFront}
 
 -- what is too long is no script
 none_long : (bytes : List ℕ) → 1048576 < length bytes → script_of bytes ≡ None
@@ -23,16 +20,17 @@ script_of-take input = elim (cases_lt 1048577 (length input)) [
   | inr short ↦ ap script_of (take_all 1048577 input short)
 ]
 
-pub says_nothing : (left old : Option (List ℕ)) → SaysFront left old old
-says_nothing None old = tt
-says_nothing (Some input) old = (0, Appends_nil old)
-
 -- the text that was read stands for the input
 abbrev pub Read : Option (List ℕ) → List ℕ → Type 0
 Read left text = IfSome left (λ input. text ≡ take 1048577 input)
 
-pub judged : (input text : List ℕ) → text ≡ take 1048577 input → script_of text ≡ script_of input
-judged input text read = ap script_of read ∙ script_of-take input
+pub keeps_all : (known : Option (List ℕ)) → Keeps known known
+keeps_all None = tt
+keeps_all (Some bytes) = refl
+
+pub says_nothing : (left old : Option (List ℕ)) → SaysFront left old old
+says_nothing None old = tt
+says_nothing (Some input) old = inl (keeps_all old)
 
 -- what was read is what the input begins with, and the rest is left
 pub judged_input : (old new : Option (List ℕ)) (text : List ℕ) → Read old text → Consumes old new text → IsJudged old new
@@ -41,33 +39,31 @@ judged_input (Some input) None text read took = absurd took
 judged_input (Some input) (Some rest) text read took =
     ap Some (append_cancel_left text rest (drop 1048577 input) (sym took ∙ sym (take-append-drop 1048577 input) ∙ ap (λ t. t ++ drop 1048577 input) (sym read)))
 
-module _ {X : Type 0} (bytes : X → List ℕ) (text : List ℕ) (lines : List Line) (run : List X) (is_script : Some lines ≡ script_of text) (path : map bytes run ≡ replies empty lines) where
-  said_is : (input : List ℕ) → text ≡ take 1048577 input → flat_map bytes run ≡ said input
-  said_is input read = concat-map bytes run ∙ ap concat path ∙ ap said_of (is_script ∙ judged input text read)
+said_to : (status : ℕ) (input text bytes : List ℕ) → text ≡ take 1048577 input → IsSaid status (script_of text) bytes → IsSaid status (script_of input) bytes
+said_to status input text bytes read said = subst (λ (o : Option (List Line)). IsSaid status o bytes) (ap script_of read ∙ script_of-take input) said
 
-  pub says_all : (left rest old new : Option (List ℕ)) → Read left text → Consumes left rest text → Appends old new (flat_map bytes run) → IsScript left × IsJudged left rest × SaysAll left old new
-  says_all None rest old new read took wrote = (tt, tt, tt)
-  says_all (Some input) rest old new read took wrote = (
-    sym (ap is_some (is_script ∙ judged input text read)),
-    judged_input (Some input) rest text read took,
-    subst (λ (bs : List ℕ). Appends old new bs) (said_is input read) wrote,
-  )
+pub says : (status : ℕ) (text bytes : List ℕ) (left old new : Option (List ℕ)) → Read left text → IsSaid status (script_of text) bytes → Appends old new bytes → Says status left old new
+says status text bytes None old new read said wrote = tt
+says status text bytes (Some input) old new read said wrote = (bytes, said_to status input text bytes read said, wrote)
 
-  pub says_front : (left old new : Option (List ℕ)) → Read left text → (n : ℕ) × Appends old new (take n (flat_map bytes run)) → SaysFront left old new
-  says_front None old new read wrote = tt
-  says_front (Some input) old new read wrote = (wrote.0, subst (λ (bs : List ℕ). Appends old new (take wrote.0 bs)) (said_is input read) wrote.1)
+pub says_front : (status : ℕ) (text bytes : List ℕ) (left old new : Option (List ℕ)) → Read left text → IsSaid status (script_of text) bytes → (n : ℕ) × Appends old new (take n bytes) → SaysFront left old new
+says_front status text bytes None old new read said wrote = tt
+says_front status text bytes (Some input) old new read said wrote = inr (status, bytes, wrote.0, said_to status input text bytes read said, wrote.1)
 
-pub not_said : (text : List ℕ) (left rest old new : Option (List ℕ)) → None ≡ script_of text → Read left text → Consumes left rest text → Appends old new (said_of None)
-    → IsNoScript left × IsJudged left rest × SaysAll left old new
-not_said text None rest old new none read took wrote = (tt, tt, tt)
-not_said text (Some input) rest old new none read took wrote =
-    let no_script = none ∙ judged input text read in (
-      sym no_script,
-      judged_input (Some input) rest text read took,
-      subst (λ (o : Option (List Line)). Appends old new (said_of o)) no_script wrote,
-    )
+-- the statuses with which something is said
+pub said_status : (status : ℕ) (script : Option (List Line)) (bytes : List ℕ) → IsSaid status script bytes → Contains (0 ∷ 2 ∷ 3 ∷ 4 ∷ 5 ∷ 6 ∷ []) status × (status ≤ 3)
+said_status status None bytes said = ((1, omega arith, sym said.0), omega (arith, said.0))
+said_status status (Some lines) bytes (inl replies) = ((0, omega arith, sym replies.0), omega (arith, replies.0))
+said_status status (Some lines) bytes (inr exhibit) = ((2, omega arith, sym exhibit.0), omega (arith, exhibit.0))
 
-pub not_said_front : (text : List ℕ) (left old new : Option (List ℕ)) → None ≡ script_of text → Read left text → (n : ℕ) × Appends old new (take n (said_of None)) → SaysFront left old new
-not_said_front text None old new none read wrote = tt
-not_said_front text (Some input) old new none read wrote =
-    (wrote.0, subst (λ (o : Option (List Line)). Appends old new (take wrote.0 (said_of o))) (none ∙ judged input text read) wrote.1)
+-- all that is said was written, and the input was read as far as it is judged by
+pub says_with : {X : Type 0} (wanted status : ℕ) → status ≡ wanted → (left rest old new : Option (List ℕ)) (text input : List ℕ) (line : X → List ℕ) (lines given : List X)
+    → input ≡ text → given ≡ lines → Read left text → Consumes left rest text → IsSaid status (script_of input) (flat_map line lines) → Appends old new (flat_map line given)
+    → Says wanted left old new × IsJudged left rest
+says_with wanted status is left rest old new text input line lines given input_is given_is read took said wrote = (
+  subst (λ (n : ℕ). Says n left old new) is
+      (says status text (flat_map line lines) left old new read
+      (subst (λ (t : List ℕ). IsSaid status (script_of t) (flat_map line lines)) input_is said)
+      (subst (λ ls. Appends old new (flat_map line ls)) given_is wrote)),
+  judged_input left rest text read took,
+)

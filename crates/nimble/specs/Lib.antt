@@ -4,5 +4,11 @@ pub mod Script
 pub mod Seen
 pub mod Reply
 pub mod Replies
+pub mod Calls
+pub mod EndorserRows
 pub mod Rows
+pub mod Acks
+pub mod Service
+pub mod SetUp
+pub mod Collision
 pub mod Ends

@@ -1,5 +1,5 @@
 -- A line of a script, from its words.
-use Rattle.std.specs.Prelude.{ℕ, ◌&&◌, List, [], ◌∷◌, length, drop, Option, Some, None, option_and_then, nat_lt, nat_le, ◌==◌, if◌then◌else◌, codes}
+use Rattle.std.specs.Prelude.{⊤, ℕ, ◌≤◌, ◌&&◌, List, [], ◌∷◌, length, drop, Option, Some, None, option_and_then, nat_lt, nat_le, ◌==◌, if◌then◌else◌, codes}
 use Rattle.std.specs.Option.{option_map}
 use Rattle.std.specs.List.{slice_split}
 use Rattle.std.specs.Str.{bytes_eq}
@@ -37,6 +37,17 @@ line_of_words (a ∷ b ∷ []) = if bytes_eq a (codes "genesis") then option_map
 line_of_words (a ∷ b ∷ c ∷ d ∷ []) = if bytes_eq a (codes "new") && (is_name b && (is_name c && is_payload d)) then Some (New b c (drop 1 d)) else None
 line_of_words (a ∷ b ∷ c ∷ d ∷ e ∷ []) = if bytes_eq a (codes "append") && (is_name b && (is_name c && is_payload e)) then option_map (λ h. Append b c h (drop 1 e)) (height d) else None
 line_of_words _ = None
+
+-- what each line that is read keeps: an id, heights and payloads within their limits
+abbrev pub IsWithin : Line → Type 0
+IsWithin (Genesis ids) = 1 ≤ length ids
+IsWithin (New client label payload) = length payload ≤ 65536
+IsWithin (Append client label height payload) = (1 ≤ height) × (height ≤ 4294967295) × (length payload ≤ 65536)
+IsWithin End = ⊤
+
+abbrev pub AllWithin : List Line → Type 0
+AllWithin [] = ⊤
+AllWithin (line ∷ lines) = IsWithin line × AllWithin lines
 
 unfoldable pub line_of : List ℕ → Option Line
 line_of line = line_of_words (words line)

@@ -16,11 +16,14 @@ empty label = []
 abbrev pub set : Ledgers → List ℕ → List (List ℕ) → Ledgers
 set ledgers label payloads other = if bytes_eq other label then payloads else ledgers other
 
+-- the answer to an append at a height that isn't the next one: what stands there, or what lacks
+abbrev pub refusal : List (List ℕ) → List ℕ → ℕ → List ℕ
+refusal standing label height =
+    if nat_lt height (length standing) then entry_line (codes "conflict") label height (slice_index_or standing height []) else gap_line label (height - 1)
+
 -- the answer to an append where these payloads stand
 abbrev pub append_reply : List (List ℕ) → List ℕ → ℕ → List ℕ → List ℕ
-append_reply standing label height payload =
-    if height == length standing then entry_line (codes "ok") label height payload
-    else (if nat_lt height (length standing) then entry_line (codes "conflict") label height (slice_index_or standing height []) else gap_line label (height - 1))
+append_reply standing label height payload = if height == length standing then entry_line (codes "ok") label height payload else refusal standing label height
 
 -- the lines that a line is answered
 abbrev pub reply_to : Ledgers → Line → List (List ℕ)

@@ -2,6 +2,7 @@
 use Rattle.std.specs.Prelude.{ℕ, List, [], ◌∷◌, ◌++◌, map, codes}
 use Rattle.std.specs.List.{join_with_byte}
 use Rattle.std.specs.Fmt.{decimal}
+use Rattle.hex.specs.Hex.{encode_lower}
 
 -- `view 0 IDS`
 abbrev pub view_line : List ℕ → List ℕ
@@ -14,3 +15,11 @@ entry_line word label height payload = word ++ (32 ∷ label) ++ (32 ∷ decimal
 -- `gap LABEL MISSING`
 abbrev pub gap_line : List ℕ → ℕ → List ℕ
 gap_line label missing = codes "gap" ++ (32 ∷ label) ++ (32 ∷ decimal missing) ++ 10 ∷ []
+
+-- `badscript`
+abbrev pub bad_script_line : List ℕ
+bad_script_line = codes "badscript" ++ 10 ∷ []
+
+-- `exhibit collision ONE OTHER`, both texts in hexadecimal
+abbrev pub exhibit_line : List ℕ → List ℕ → List ℕ
+exhibit_line one other = codes "exhibit collision " ++ encode_lower one ++ (32 ∷ encode_lower other) ++ 10 ∷ []

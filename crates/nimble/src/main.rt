@@ -5,14 +5,20 @@
 //! of them, [`path`] answers each line over the stored [`rows`], and [`reply`] writes the answers.
 #![tactic(auto)]
 
+pub mod answer;
+pub mod collision;
+pub mod endorser;
 pub mod input;
 pub mod line;
+pub mod nonce;
 pub mod path;
 pub mod replay;
 pub mod reply;
 pub mod rows;
 pub mod run;
 pub mod script;
+pub mod service;
+pub mod set_up;
 pub mod status;
 #[cfg(test)]
 mod tests;

@@ -1,90 +1,59 @@
-ghost use Rattle.std.specs.Prelude.{◌≡◌, [], IfOk, OnOk, map};
-ghost use Rattle.nimble.specs.Line.{Append};
-ghost use Rattle.nimble.specs.Replies.{Starts, after, append_reply, empty, replies, reply_to};
-ghost use Rattle.nimble.specs.Rows.{ledgers_of};
-ghost use Rattle.nimble.specs.Seen.{IsRead, line_seen, lines_seen, said};
+ghost use Rattle.std.specs.Prelude.{◌≡◌, IfOk, length, map};
+ghost use Rattle.nimble.specs.Acks.{AllCarried, acks, begin, members};
+ghost use Rattle.nimble.specs.Calls.{AllStandAlone};
+ghost use Rattle.nimble.specs.Collision.{NoCollision};
+ghost use Rattle.nimble.specs.Replies.{empty, replies};
+ghost use Rattle.nimble.specs.Seen.{IsRead, lines_seen};
+ghost use Rattle.nimble.specs.SetUp.{set_up_texts};
 
+use crate::endorser::FirstCall;
 use crate::line::FirstLine;
-use crate::reply::{entry_line, gap_line, view_line};
-use crate::rows::{Row, payloads_of, store};
 use crate::script::FirstScript;
+use crate::service::{Service, lists_of};
 use nim_base::{NoMemory, Text};
 use std::alloc::Global;
 
-/// What a script was answered.
+/// What a script was answered, and the endorsers' calls behind it.
 #[derive(Debug, Drop)]
 pub struct FirstRun {
     /// The reply lines, each with its line feed.
     pub lines: Vec<Text>,
+    /// The calls that each endorser took, by the members that the first line names.
+    pub lists: Vec<Vec<FirstCall>>,
 }
 
-/// Appends where the height is the number of payloads that stand; else says what stands or lacks.
-fn append(
-    alloc: Global,
-    rows: &mut Vec<Row>,
-    label: &[u8],
-    height: u64,
-    payload: &[u8],
-) -> Result<Text, NoMemory>
-    ensures reply { IfOk result (λ line. line.bytes
-        ≡ append_reply (ledgers_of rows.old.items label.now) label.now height payload.now) }
-    ensures rows { OnOk result (ledgers_of rows.new.items
-        ≡ after (ledgers_of rows.old.items) (Append [] label.now height payload.now)) }
+/// How many endorsers a script begins with.
+fn member_count(lines: &[FirstLine]) -> usize
+    ensures { result ≡ length (members (lines_seen lines.now)) }
 {
-    let standing = payloads_of(alloc, rows, label)?;
-    let count = standing.len() as u64;
-    if height > count {
-        return gap_line(alloc, label, height - 1);
-    }
-    if height < count {
-        return entry_line(alloc, b"conflict", label, height, standing[height as usize]);
-    }
-    drop(standing);
-    let line = entry_line(alloc, b"ok", label, height, payload)?;
-    store(alloc, rows, label, payload)?;
-    Ok(line)
-}
-
-/// Answers a line and moves the rows on. The line `end` has no answer.
-fn answer(alloc: Global, rows: &mut Vec<Row>, line: &FirstLine) -> Result<Option<Text>, NoMemory>
-    requires { Starts (ledgers_of rows.old.items) (line_seen line.now) }
-    ensures reply { IfOk result (λ reply. said reply
-        ≡ reply_to (ledgers_of rows.old.items) (line_seen line.now)) }
-    ensures rows { OnOk result (ledgers_of rows.new.items
-        ≡ after (ledgers_of rows.old.items) (line_seen line.now)) }
-{
-    match line {
-        FirstLine::Genesis { ids } => Ok(Some(view_line(alloc, ids)?)),
-        FirstLine::New { label, payload, .. } => {
-            store(alloc, rows, label.bytes(), payload.bytes())?;
-            let reply = entry_line(alloc, b"ok", label.bytes(), 0, payload.bytes())?;
-            Ok(Some(reply))
-        }
-        FirstLine::Append {
-            label,
-            height,
-            payload,
-            ..
-        } => {
-            let reply = append(alloc, rows, label.bytes(), *height, payload.bytes())?;
-            Ok(Some(reply))
-        }
-        FirstLine::End => Ok(None),
+    match lines {
+        [FirstLine::Genesis { ids }, ..] => ids.len(),
+        _ => 0,
     }
 }
 
 /// Runs a script.
 pub fn first_path(alloc: Global, script: &FirstScript) -> Result<FirstRun, NoMemory>
-    requires { IsRead (lines_seen script.now.lines.items) }
-    ensures { IfOk result (λ run. map (λ line. line.bytes) run.lines.items
+    requires script { IsRead (lines_seen script.now.lines.items) }
+    requires set_up { NoCollision (set_up_texts (lines_seen script.now.lines.items)) }
+    ensures replies { IfOk result (λ run. map (λ line. line.bytes) run.lines.items
         ≡ replies empty (lines_seen script.now.lines.items)) }
+    ensures members { IfOk result (λ run. length run.lists.items
+        ≡ length (members (lines_seen script.now.lines.items))) }
+    ensures stand { IfOk result (λ run.
+        AllStandAlone (map (λ list. list.items) run.lists.items)) }
+    ensures carried { IfOk result (λ run. AllCarried (map (λ list. list.items) run.lists.items)
+        (acks begin (lines_seen script.now.lines.items))) }
 {
-    let mut rows = Vec::new(alloc);
+    let mut service = Service::new(alloc, member_count(&script.lines))?;
     let mut lines = Vec::new(alloc);
-    for line in &script.lines {
-        if let Some(reply) = answer(alloc, &mut rows, line)? {
+    for (i, line) in script.lines.iter().enumerate() {
+        if let Some(reply) = service.answer(alloc, i as u64 + 1, line)? {
             lines.push(reply)?;
         }
     }
-    Ok(FirstRun { lines })
+    Ok(FirstRun {
+        lines,
+        lists: lists_of(alloc, service.endorsers)?,
+    })
 }

@@ -2,11 +2,10 @@ ghost use Rattle.std.specs.Prelude.{◌≡◌, ◌∷◌, [], Contains};
 ghost use Rattle.std.specs.List.{flat_map};
 ghost use Rattle.std.specs.Io.KnownBytes.{Keeps};
 ghost use Rattle.nim_outside.specs.Causes.{HasCause, Puts, Rose};
-ghost use Rattle.nimble.specs.Ends.{IsJudged, IsNoScript, IsScript, SaysAll, SaysFront};
+ghost use Rattle.nimble.specs.Ends.{IsJudged, Says, SaysFront};
 
+use crate::answer::answer;
 use crate::input::{InputFault, read_input};
-use crate::path::first_path;
-use crate::script::read_script;
 use crate::status::Status;
 use nim_base::{NoMemory, Text};
 use nim_outside::{Fault, Sink, Source};
@@ -24,16 +23,17 @@ fn put_lines<K: Sink>(lines: &[Text], sink: &mut K) -> Result<(), Fault>
     Ok(())
 }
 
-/// Runs the script that the source gives, and writes its reply lines, or the one line `badscript`
-/// for an input that is no script.
+/// Runs the script that the source gives, and writes its reply lines. Where two of its set-up texts
+/// have one digest, their line is the whole output; for an input that is no script it is the line
+/// `badscript`.
 pub fn run_replay<S: Source, K: Sink>(alloc: Global, source: &mut S, sink: &mut K) -> Status
-    ensures known { Contains (0 ∷ 2 ∷ 4 ∷ 5 ∷ 6 ∷ []) result.0 }
-    ensures done { result.0 ≡ 0 → IsScript (S.left source.old)
-        × IsJudged (S.left source.old) (S.left source.new)
-        × SaysAll (S.left source.old) (K.written sink.old) (K.written sink.new) }
-    ensures bad_script { result.0 ≡ 2 → IsNoScript (S.left source.old)
-        × IsJudged (S.left source.old) (S.left source.new)
-        × SaysAll (S.left source.old) (K.written sink.old) (K.written sink.new) }
+    ensures known { Contains (0 ∷ 2 ∷ 3 ∷ 4 ∷ 5 ∷ 6 ∷ []) result.0 }
+    ensures done { result.0 ≡ 0 → Says 0 (S.left source.old) (K.written sink.old) (K.written sink.new)
+        × IsJudged (S.left source.old) (S.left source.new) }
+    ensures bad_script { result.0 ≡ 2 → Says 2 (S.left source.old) (K.written sink.old) (K.written sink.new)
+        × IsJudged (S.left source.old) (S.left source.new) }
+    ensures exhibit { result.0 ≡ 3 → Says 3 (S.left source.old) (K.written sink.old) (K.written sink.new)
+        × IsJudged (S.left source.old) (S.left source.new) }
     ensures read_fault { result.0 ≡ 4 → Rose (S.fault_count source.old) (S.fault_count source.new)
         × Keeps (K.written sink.old) (K.written sink.new) }
     ensures write_fault { result.0 ≡ 5 → Rose (K.fault_count sink.old) (K.fault_count sink.new)
@@ -46,20 +46,12 @@ pub fn run_replay<S: Source, K: Sink>(alloc: Global, source: &mut S, sink: &mut 
         Err(InputFault::Source) => return Status::READ_FAULT,
         Err(InputFault::NoMemory) => return Status::NO_MEMORY,
     };
-    let script = match read_script(alloc, text.bytes()) {
-        Ok(Some(script)) => script,
-        Ok(None) => match sink.put(b"badscript\n") {
-            Ok(()) => return Status::BAD_SCRIPT,
-            Err(Fault) => return Status::WRITE_FAULT,
-        },
+    let said = match answer(alloc, text.bytes()) {
+        Ok(said) => said,
         Err(NoMemory) => return Status::NO_MEMORY,
     };
-    let run = match first_path(alloc, &script) {
-        Ok(run) => run,
-        Err(NoMemory) => return Status::NO_MEMORY,
-    };
-    match put_lines(&run.lines, sink) {
-        Ok(()) => Status::DONE,
+    match put_lines(&said.lines, sink) {
+        Ok(()) => said.status,
         Err(Fault) => Status::WRITE_FAULT,
     }
 }

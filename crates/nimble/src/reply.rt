@@ -1,9 +1,21 @@
 ghost use Rattle.std.specs.Prelude.{◌≡◌, ◌++◌, ◌∷◌, IfOk, OnOk, if◌then◌else◌};
 ghost use Rattle.std.specs.Fmt.{decimal};
-ghost use Rattle.nimble.specs.Reply.{entry_line, gap_line, view_line};
+ghost use Rattle.nimble.specs.Reply.{entry_line, exhibit_line, gap_line, view_line};
 
 use nim_base::{NoMemory, Text};
 use std::alloc::Global;
+
+/// `exhibit collision ONE OTHER`, both texts in hexadecimal.
+pub fn exhibit_line(alloc: Global, one: &[u8], other: &[u8]) -> Result<Text, NoMemory>
+    ensures { IfOk result (λ line. line.bytes ≡ exhibit_line one.now other.now) }
+{
+    let mut line = Text::of(alloc, b"exhibit collision ")?;
+    line.push(hex::encode(alloc, one)?.as_bytes())?;
+    line.push(b" ")?;
+    line.push(hex::encode(alloc, other)?.as_bytes())?;
+    line.push(b"\n")?;
+    Ok(line)
+}
 
 fn push_number(alloc: Global, text: &mut Text, number: u64) -> Result<(), NoMemory>
     ensures { OnOk result (text.new.bytes ≡ text.old.bytes ++ decimal number) }

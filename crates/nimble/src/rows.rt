@@ -1,47 +1,48 @@
-ghost use Rattle.std.specs.Prelude.{◌≡◌, ◌∷◌, ◌++◌, [], IfOk, OnOk, map};
-ghost use Rattle.nimble.specs.Rows.{IsStored, ledgers_of};
+ghost use Rattle.std.specs.Prelude.{◌≡◌, IfOk, map};
+ghost use Rattle.nimble.specs.Rows.{newest_tail, payload_of, rows_of};
 
-use nim_base::{NoMemory, Text};
+use crate::endorser::FirstCall;
+use chain_block::{Entry, tail_of};
+use nim_base::{Digest, NoMemory, Text};
 use std::alloc::Global;
 
-/// A stored row: a payload, and the label of the ledger that it stands in.
+/// A stored row: an entry, the label of its ledger, and the call that appended it.
 #[derive(Debug, Drop)]
 pub struct Row {
     pub label: Text,
-    pub payload: Text,
+    pub entry: Entry,
+    pub call: FirstCall,
 }
 
-/// The payloads that stand in the ledger of a label, the oldest first.
-pub fn payloads_of<'a>(
-    alloc: Global,
-    rows: &'a [Row],
-    label: &[u8],
-) -> Result<Vec<&'a [u8]>, NoMemory>
-    ensures { IfOk result (λ found. map (λ one. one.now) found.items
-        ≡ ledgers_of rows.now label.now) }
+/// The payload of an entry.
+pub fn payload_of(entry: &Entry) -> &[u8]
+    ensures { result.now ≡ payload_of entry.now }
+{
+    match entry {
+        Entry::Genesis { payload, .. } | Entry::Later { payload, .. } => payload.bytes(),
+    }
+}
+
+/// The rows of a label's ledger, the oldest first.
+pub fn rows_of<'a>(alloc: Global, rows: &'a [Row], label: &[u8]) -> Result<Vec<&'a Row>, NoMemory>
+    ensures { IfOk result (λ found. map (λ one. one.now) found.items ≡ rows_of rows.now label.now) }
 {
     let mut found = Vec::new(alloc);
     for row in rows {
         if row.label.bytes() == label {
-            found.push(row.payload.bytes())?;
+            found.push(row)?;
         }
     }
     Ok(found)
 }
 
-/// Stores a payload at the end of a label's ledger.
-pub fn store(
-    alloc: Global,
-    rows: &mut Vec<Row>,
-    label: &[u8],
-    payload: &[u8],
-) -> Result<(), NoMemory>
-    ensures { OnOk result (IsStored rows.old.items rows.new.items label.now payload.now) }
+/// The tail after a ledger's newest row, zeros where it has none.
+pub fn newest_tail(rows: &[&Row]) -> Digest
+    ensures { result ≡ newest_tail (map (λ one. one.now) rows.now) }
 {
-    let row = Row {
-        label: Text::of(alloc, label)?,
-        payload: Text::of(alloc, payload)?,
-    };
-    rows.push(row)?;
-    Ok(())
+    if rows.is_empty() {
+        return Digest::ZERO;
+    }
+    let call = &rows[rows.len() - 1].call;
+    tail_of(&call.prev, &call.entry, call.height)
 }

@@ -1,7 +1,7 @@
 ghost use Rattle.std.specs.Prelude.{◌≡◌, ◌≢◌, ◌↔◌, ◌∷◌, [], false, Contains};
 ghost use Rattle.std.specs.Io.KnownBytes.{Keeps};
 ghost use Rattle.nim_outside.specs.Causes.{Rose};
-ghost use Rattle.nimble.specs.Ends.{IsJudged, IsNoScript, IsScript, SaysAll, SaysFront, is_replay};
+ghost use Rattle.nimble.specs.Ends.{IsJudged, Says, SaysFront, is_replay};
 
 use crate::replay::run_replay;
 use crate::status::Status;
@@ -31,13 +31,13 @@ pub fn run<H: Eprint, S: Source, K: Sink>(
     ensures not_written { result.0 ≡ 1 → Keeps (K.written sink.old) (K.written sink.new) }
 
     // with the word `replay` it is `run_replay`
-    ensures known { result.0 ≢ 1 → Contains (0 ∷ 2 ∷ 4 ∷ 5 ∷ 6 ∷ []) result.0 }
-    ensures done { result.0 ≡ 0 → IsScript (S.left source.old)
-        × IsJudged (S.left source.old) (S.left source.new)
-        × SaysAll (S.left source.old) (K.written sink.old) (K.written sink.new) }
-    ensures bad_script { result.0 ≡ 2 → IsNoScript (S.left source.old)
-        × IsJudged (S.left source.old) (S.left source.new)
-        × SaysAll (S.left source.old) (K.written sink.old) (K.written sink.new) }
+    ensures known { result.0 ≢ 1 → Contains (0 ∷ 2 ∷ 3 ∷ 4 ∷ 5 ∷ 6 ∷ []) result.0 }
+    ensures done { result.0 ≡ 0 → Says 0 (S.left source.old) (K.written sink.old) (K.written sink.new)
+        × IsJudged (S.left source.old) (S.left source.new) }
+    ensures bad_script { result.0 ≡ 2 → Says 2 (S.left source.old) (K.written sink.old) (K.written sink.new)
+        × IsJudged (S.left source.old) (S.left source.new) }
+    ensures exhibit { result.0 ≡ 3 → Says 3 (S.left source.old) (K.written sink.old) (K.written sink.new)
+        × IsJudged (S.left source.old) (S.left source.new) }
     ensures read_fault { result.0 ≡ 4 → Rose (S.fault_count source.old) (S.fault_count source.new)
         × Keeps (K.written sink.old) (K.written sink.new) }
     ensures write_fault { result.0 ≡ 5 → Rose (K.fault_count sink.old) (K.fault_count sink.new)

@@ -53,10 +53,11 @@ fn new_count(lines: &[FirstLine]) -> usize
     count
 }
 
-fn is_used(used: &[&[u8]], label: &[u8]) -> bool
-    ensures { result ≡ list_any (bytes_eq label.now) (map (λ one. one.now) used.now) }
+/// Whether a label is one of these.
+pub fn is_among(labels: &[&[u8]], label: &[u8]) -> bool
+    ensures { result ≡ list_any (bytes_eq label.now) (map (λ one. one.now) labels.now) }
 {
-    used.iter().any(|one| label == *one)
+    labels.iter().any(|one| label == *one)
 }
 
 fn follows(alloc: Global, lines: &[FirstLine]) -> Result<bool, NoMemory>
@@ -67,7 +68,7 @@ fn follows(alloc: Global, lines: &[FirstLine]) -> Result<bool, NoMemory>
         match line {
             FirstLine::Genesis { .. } => return Ok(false),
             FirstLine::New { label, .. } => {
-                if is_used(&used, label.bytes()) {
+                if is_among(&used, label.bytes()) {
                     return Ok(false);
                 }
                 used.push(label.bytes())?;

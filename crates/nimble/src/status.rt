@@ -12,6 +12,9 @@ impl Status {
     /// The input is no script.
     pub const BAD_SCRIPT: Status = Status(2);
 
+    /// Two different texts have one digest, and they were written.
+    pub const EXHIBIT: Status = Status(3);
+
     /// The source failed.
     pub const READ_FAULT: Status = Status(4);
 

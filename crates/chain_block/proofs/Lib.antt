@@ -1,0 +1,6 @@
+pub mod EntryFaults
+pub mod EntryLaws
+pub mod LinksSteps
+pub mod MetaBlockLaws
+pub mod Parts
+pub mod Places

@@ -1,0 +1,9 @@
+pub mod Order
+pub mod Rising
+pub mod Places
+pub mod Sets
+pub mod Texts
+pub mod Reader
+pub mod Faults
+pub mod RowTexts
+pub mod Heads

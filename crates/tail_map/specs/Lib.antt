@@ -1,0 +1,3 @@
+pub mod TailMap
+pub mod MapForm
+pub mod FormFault
