@@ -7,4 +7,10 @@ mod base;
 #[cfg(test)]
 mod chains;
 #[cfg(test)]
+mod hexadecimal;
+#[cfg(test)]
+mod maps;
+#[cfg(test)]
 mod outside;
+#[cfg(test)]
+mod statements;

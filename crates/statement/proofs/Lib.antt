@@ -1,0 +1,10 @@
+pub mod Quorums
+pub mod IdsLemmas
+pub mod Loop
+pub mod Fields
+pub mod Readers
+pub mod Wholes
+pub mod ConfigReader
+pub mod ViewBlockReader
+pub mod StatementReader
+pub mod ReceiptReader

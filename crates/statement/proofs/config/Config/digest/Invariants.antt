@@ -1,0 +1,8 @@
+use Rattle.std.proofs.Common.{◌∷◌, length, take}
+use Rattle.std.specs.List.{flat_map}
+use Rattle.sha2.specs.Hashers.{Holds256}
+use Rattle.statement.specs.ConfigForm.{member_bytes}
+use Rattle.statement.proofs.config.Config.digest.Given as goal
+
+abbrev pub invariant-loop-member : goal.invariant-loop-member
+invariant-loop-member l = Holds256 l.hasher (0x12 ∷ length l.self ∷ flat_map member_bytes (take l.member-index l.self))

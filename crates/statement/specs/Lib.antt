@@ -1,0 +1,10 @@
+pub mod Ids
+pub mod Config
+pub mod ConfigForm
+pub mod FormFault
+pub mod Reading
+pub mod ViewBlock
+pub mod Statement
+pub mod Mark
+pub mod Receipt
+pub mod ViewTail
