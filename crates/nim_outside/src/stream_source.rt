@@ -1,8 +1,10 @@
+ghost use Rattle.std.specs.Prelude.{◌≡◌, if◌then◌else◌, is_err};
+
 use crate::fault::Fault;
 use crate::source::Source;
 use std::io::Read;
 
-/// A source over a real reader, which is trusted to give the bytes that come in. It tells none.
+/// A source over a reader, which tells what the reader tells.
 #[derive(Drop)]
 pub struct StreamSource<R: Read> {
     reader: R,
@@ -11,15 +13,20 @@ pub struct StreamSource<R: Read> {
 
 impl<R: Read> StreamSource<R> {
     /// A source that hasn't failed yet.
-    pub fn new(reader: R) -> StreamSource<R> {
+    pub fn new(reader: R) -> StreamSource<R>
+        ensures faults { result.faults ≡ 0 }
+        ensures reader { result.reader ≡ reader }
+    {
         StreamSource { reader, faults: 0 }
     }
 }
 
 impl<R: Read> Source for StreamSource<R> {
-    ghost use Rattle.std.specs.Prelude.{None};
+    ghost use Rattle.std.specs.Io.{ReadsAtMost};
+    ghost use Rattle.std.specs.Io.KnownBytes.{ReadConsumes};
+    ghost use Rattle.nim_outside.specs.Causes.{HasCause, counted};
 
-    ghost left = { λ _. None };
+    ghost left = { λ source. R.remaining source.reader };
 
     ghost fault_count = { λ source. source.faults };
 
@@ -27,7 +34,14 @@ impl<R: Read> Source for StreamSource<R> {
         self.faults
     }
 
-    fn read(&mut self, into: &mut [u8]) -> Result<usize, Fault> {
+    fn read(&mut self, into: &mut [u8]) -> Result<usize, Fault>
+        ensures bound { ReadsAtMost result into.new }
+        ensures bytes { ReadConsumes (R.remaining self.old.reader) (R.remaining self.new.reader) result into.new }
+        ensures cause { HasCause self.old.faults self.new.faults result }
+
+        // What the adapter promises besides.
+        ensures faults { self.new.faults ≡ (if is_err result then counted self.old.faults else self.old.faults) }
+    {
         match self.reader.read(into) {
             Ok(count) => Ok(count),
             Err(_) => {
