@@ -23,6 +23,11 @@ SameEntry (Later handle height nonce payload) (Later handle' height' nonce' payl
 SameEntry (Genesis nonce payload) (Later handle' height' nonce' payload') = ⊥
 SameEntry (Later handle height nonce payload) (Genesis nonce' payload') = ⊥
 
+-- the same entry, with no room behind its payload
+abbrev pub bare : Entry → Entry
+bare (Genesis nonce payload) = Genesis nonce (record { bytes = payload.bytes; room = 0 })
+bare (Later handle height nonce payload) = Later handle height nonce (record { bytes = payload.bytes; room = 0 })
+
 abbrev pub entry_bytes : Entry → List ℕ
 entry_bytes (Genesis nonce payload) = genesis_bytes nonce payload.bytes
 entry_bytes (Later handle height nonce payload) = later_bytes handle height nonce payload.bytes

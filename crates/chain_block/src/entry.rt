@@ -1,7 +1,7 @@
 ghost use Rattle.std.specs.Prelude.{◌≡◌, ◌≤◌, ◌<◌, ◌∷◌, ◌↔◌, All, List, ℕ, length, IfOk, OnOk, MatchResult};
 ghost use Rattle.std.specs.Int.{to_be_bytes, w32};
 ghost use Rattle.chain_block.specs.declared.entry.Entry.{Entry};
-ghost use Rattle.chain_block.specs.Entry.{entry_bytes, entry_digest, handle_of, height_of, nonce_of, IsWellFormed, IsWithinLimits, SameEntry};
+ghost use Rattle.chain_block.specs.Entry.{entry_bytes, entry_digest, handle_of, height_of, nonce_of, IsWellFormed, IsWithinLimits, SameEntry, bare};
 ghost use Rattle.chain_block.specs.EntryFault.{entry_fault, genesis_fault, later_fault, payload_fault, Reports};
 
 use crate::entry_fault::EntryFault;
@@ -70,6 +70,29 @@ impl Entry {
             }
         }
         Ok(text)
+    }
+
+    /// The same entry in memory of its own, with no room behind its payload.
+    pub fn copy(&self, alloc: Global) -> Result<Entry, NoMemory>
+        ensures { IfOk result (λ copy. copy ≡ bare self.now) }
+    {
+        match self {
+            Entry::Genesis { nonce, payload } => Ok(Entry::Genesis {
+                nonce: *nonce,
+                payload: Text::of(alloc, payload.bytes())?,
+            }),
+            Entry::Later {
+                handle,
+                height,
+                nonce,
+                payload,
+            } => Ok(Entry::Later {
+                handle: *handle,
+                height: *height,
+                nonce: *nonce,
+                payload: Text::of(alloc, payload.bytes())?,
+            }),
+        }
     }
 
     /// The entry that has these bytes, all of them.

@@ -66,6 +66,15 @@ impl Config {
         })
     }
 
+    /// The same config in memory of its own.
+    pub fn copy(&self, alloc: Global) -> Result<Config, NoMemory>
+        ensures { IfOk result (λ copy. copy ≡ self.now) }
+    {
+        Ok(Config {
+            members: Vec::from_slice(alloc, &self.members)?,
+        })
+    }
+
     /// The members, in rising ids.
     pub fn members(&self) -> &[Member]
         ensures members { result.now ≡ self.now }

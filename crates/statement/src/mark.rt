@@ -1,4 +1,7 @@
-use nim_base::Text;
+ghost use Rattle.std.specs.Prelude.{◌≡◌, IfOk};
+
+use nim_base::{NoMemory, Text};
+use std::alloc::Global;
 use std::marker::Model;
 
 /// A member's signature under its id. In a receipt a signature has from 1 to
@@ -15,4 +18,16 @@ impl Model for Mark {
     ghost Value = { Content };
 
     ghost view = { λ mark. record { id = mark.id; sig = mark.sig.bytes } };
+}
+
+impl Mark {
+    /// The same mark in memory of its own.
+    pub fn copy(&self, alloc: Global) -> Result<Mark, NoMemory>
+        ensures { IfOk result (λ copy. copy ≡ self.now) }
+    {
+        Ok(Mark {
+            id: self.id,
+            sig: Text::of(alloc, self.sig.bytes())?,
+        })
+    }
 }

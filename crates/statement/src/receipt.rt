@@ -54,6 +54,16 @@ impl Receipt {
         Ok(text)
     }
 
+    /// The same receipt in memory of its own.
+    pub fn copy(&self, alloc: Global) -> Result<Receipt, NoMemory>
+        ensures { IfOk result (λ copy. copy ≡ self.now) }
+    {
+        Ok(Receipt {
+            statement: self.statement,
+            marks: copy_marks(alloc, self.marks.as_slice())?,
+        })
+    }
+
     /// The receipt whose bytes these are. A refusal names the fault that shows first, from the front, where
     /// the fields have the lengths that [`write`](Receipt::write) says:
     ///
@@ -85,6 +95,16 @@ fn put_mark(text: &mut Text, mark: &Mark) -> Result<(), NoMemory>
     text.push(&mark.id.to_be_bytes())?;
     text.push(&(sig.len() as u16).to_be_bytes())?;
     text.push(sig)
+}
+
+fn copy_marks(alloc: Global, marks: &[Mark]) -> Result<Vec<Mark>, NoMemory>
+    ensures { IfOk result (λ copies. copies.items ≡ marks.now) }
+{
+    let mut copies = Vec::with_capacity(alloc, marks.len())?;
+    for mark in marks {
+        copies.push(mark.copy(alloc)?)?;
+    }
+    Ok(copies)
 }
 
 fn read_whole(alloc: Global, bytes: &[u8]) -> Result<Receipt, FormFault>
