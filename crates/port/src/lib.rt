@@ -1,0 +1,26 @@
+//! What passes between a service's parts: rows and replies, views and what ends them, and the calls of
+//! an endorser with its answers.
+
+#![tactic(auto)]
+
+mod activation_proof;
+mod endorser_answer;
+mod endorser_call;
+mod endorser_refusal;
+mod latest_reply;
+mod phase;
+mod proof_cause;
+mod row;
+mod standing;
+mod view_row;
+
+pub use activation_proof::{ActivationProof, Chain, FinalMap};
+pub use endorser_answer::EndorserAnswer;
+pub use endorser_call::EndorserCall;
+pub use endorser_refusal::EndorserRefusal;
+pub use latest_reply::LatestReply;
+pub use phase::Phase;
+pub use proof_cause::ProofCause;
+pub use row::Row;
+pub use standing::Standing;
+pub use view_row::{FinalMark, ViewRow};
