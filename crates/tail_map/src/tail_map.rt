@@ -1,4 +1,4 @@
-ghost use Rattle.std.specs.Prelude.{◌≡◌, ◌≢◌, ℕ, ◌-◌, ◌<◌, ◌≤◌, ◌⊎◌, ◌↔◌, max, List, [], ◌++◌, length, false, is_ok, if◌then◌else◌, Ok, Err, IsOk, IfOk, IfErr, OnOk, OnErr};
+ghost use Rattle.std.specs.Prelude.{◌≡◌, ◌≢◌, ℕ, ◌-◌, ◌<◌, ◌≤◌, ◌⊎◌, ◌↔◌, ◌^◌, max, List, [], ◌++◌, length, true, false, is_ok, if◌then◌else◌, Ok, Err, IsOk, IfOk, IfErr, OnOk, OnErr};
 ghost use Rattle.std.specs.Cmp.Lexicographic.{slice_cmp};
 ghost use Rattle.std.specs.Ordering.{nat_cmp};
 ghost use Rattle.std.specs.List.Sorted.{IsBinarySearchResult, IsSearchInRange};
@@ -54,7 +54,9 @@ impl TailMap {
 
     /// The tail and count of a ledger, zeros and 0 where it has no row. It takes no memory.
     pub fn get(&self, handle: &Digest) -> (Digest, u64)
-        ensures { result ≡ get self.now.rows handle.now }
+        ensures row { result ≡ get self.now.rows handle.now }
+        ensures present { (has_handle self.now.rows handle.now ≡ true) ↔ (0 < result.1) }
+        ensures most { result.1 ≤ 2 ^ 32 }
     {
         match self.place(handle) {
             Ok(place) => {
