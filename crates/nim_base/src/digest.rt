@@ -1,4 +1,4 @@
-ghost use Rattle.std.specs.Prelude.{◌≡◌};
+ghost use Rattle.std.specs.Prelude.{◌≡◌, replicate};
 ghost use Rattle.sha2.specs.Sha256.{sha256};
 
 use sha2::{Digest as _, Sha256};
@@ -21,6 +21,15 @@ impl Model for Digest {
 impl Digest {
     /// 32 zero bytes, which stand for the tail of nothing.
     pub const ZERO: Digest = Digest([0; 32]);
+}
+
+impl Default for Digest {
+    ghost is_default = { λ digest. digest ≡ replicate 32 0 };
+
+    /// [`Digest::ZERO`]. No clause can name a constant of this type, so this one pins its bytes.
+    fn default() -> Digest {
+        Digest::ZERO
+    }
 }
 
 /// The SHA-256 digest of some bytes (FIPS 180-4, section 6.2). It takes no memory.
