@@ -2,7 +2,8 @@
 //!
 //! Each trait stands for one thing that may fail. Its object counts its own faults, and a call
 //! answers `Err` only where that count rose. An object may tell what it holds, for contracts alone:
-//! the forms in memory do, and the adapters over real streams don't.
+//! the forms in memory do, and the adapters tell what their reader or writer tells. Real streams tell
+//! nothing.
 //!
 //! | trait | in memory | over the real thing |
 //! |---|---|---|

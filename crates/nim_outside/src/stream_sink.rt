@@ -1,14 +1,39 @@
-ghost use Rattle.std.specs.Prelude.{◌≡◌, if◌then◌else◌, is_err, OnOk};
+ghost use Rattle.std.specs.Prelude.{◌≡◌, if◌then◌else◌, is_err};
+ghost use Rattle.std.specs.Io.KnownBytes.{Appends};
+ghost use Rattle.nim_outside.specs.Causes.{Puts};
 
 use crate::fault::Fault;
 use crate::sink::Sink;
-use std::io::Write;
+use std::io::{ErrorKind, Write};
 
-/// A sink over a writer. It tells nothing itself: where a put is `Ok`, the writer took all its bytes.
+/// A sink over a writer, which tells what the writer tells.
 #[derive(Drop)]
 pub struct StreamSink<W: Write> {
     writer: W,
     faults: u64,
+}
+
+/// Hands the bytes to the writer until it has taken them all. A call that was interrupted is made
+/// again.
+fn write_each<W: Write>(writer: &mut W, bytes: &[u8]) -> Result<(), Fault>
+    ensures { Puts (W.contents writer.old) (W.contents writer.new) result bytes.now }
+{
+    let mut rest = bytes;
+    for _ in 0..u64::MAX {
+        if rest.is_empty() {
+            return Ok(());
+        }
+        match writer.write(rest) {
+            Ok(0) => return Err(Fault),
+            Ok(count) => rest = &rest[count..],
+            Err(error) => {
+                if error.kind() != ErrorKind::Interrupted {
+                    return Err(Fault);
+                }
+            }
+        }
+    }
+    Err(Fault)
 }
 
 impl<W: Write> StreamSink<W> {
@@ -22,11 +47,9 @@ impl<W: Write> StreamSink<W> {
 }
 
 impl<W: Write> Sink for StreamSink<W> {
-    ghost use Rattle.std.specs.Prelude.{None};
-    ghost use Rattle.std.specs.Io.KnownBytes.{Appends};
     ghost use Rattle.nim_outside.specs.Causes.{HasCause, Puts, counted};
 
-    ghost written = { λ _. None };
+    ghost written = { λ sink. W.contents sink.writer };
 
     ghost fault_count = { λ sink. sink.faults };
 
@@ -35,19 +58,16 @@ impl<W: Write> Sink for StreamSink<W> {
     }
 
     fn put(&mut self, bytes: &[u8]) -> Result<(), Fault>
-        ensures bytes { Puts None None result bytes.now }
+        ensures bytes { Puts (W.contents self.old.writer) (W.contents self.new.writer) result bytes.now }
         ensures cause { HasCause self.old.faults self.new.faults result }
 
         // What the adapter promises besides.
-        ensures written { OnOk result (Appends (W.contents self.old.writer) (W.contents self.new.writer) bytes.now) }
         ensures faults { self.new.faults ≡ (if is_err result then counted self.old.faults else self.old.faults) }
     {
-        match self.writer.write_all(bytes) {
-            Ok(()) => Ok(()),
-            Err(_) => {
-                self.faults = self.faults.saturating_add(1);
-                Err(Fault)
-            }
+        let result = write_each(&mut self.writer, bytes);
+        if result.is_err() {
+            self.faults = self.faults.saturating_add(1);
         }
+        result
     }
 }
