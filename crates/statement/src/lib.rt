@@ -4,7 +4,7 @@
 //!   says why members make no config.
 //! - [`ViewBlock`] binds a config to the view below it and to its number, and its digest is the tail of
 //!   the view.
-//! - [`Statement`] is what a member signs.
+//! - [`Statement`] is what a member signs, and [`StatementBytes`] are its bytes.
 //! - [`Receipt`] is a statement with the [`Mark`]s of those who signed it.
 //!
 //! [`FormFault`] says why bytes can't be read as one of these.
@@ -24,6 +24,7 @@ mod member;
 mod reading;
 mod receipt;
 mod statement;
+mod statement_bytes;
 mod view_block;
 
 pub use config::{Config, MAX_MEMBERS};
@@ -37,4 +38,5 @@ pub use member::Member;
 pub use nim_base::FormFault;
 pub use receipt::{MAX_MARKS, MAX_SIGNATURE, Receipt};
 pub use statement::Statement;
+pub use statement_bytes::{MAX_STATEMENT, StatementBytes};
 pub use view_block::ViewBlock;

@@ -5,6 +5,7 @@ ghost use Rattle.statement.specs.Statement.{IsStatement, statement_bytes, Statem
 ghost use Rattle.statement.specs.Reading.{GivesJust, Reads, whole, statement_at, held_at, latest_at, final_at};
 
 use crate::reading::{end, read_byte, read_digest, read_nonce, read_u64};
+use crate::statement_bytes::StatementBytes;
 use nim_base::{Cursor, Digest, FormFault, NoMemory, Nonce, Text};
 use std::alloc::Global;
 
@@ -44,11 +45,10 @@ pub enum Statement {
 }
 
 impl Statement {
-    /// The bytes of the statement, as its variants say. These are what is signed.
-    pub fn write(&self, alloc: Global) -> Result<Text, NoMemory>
-        ensures { IfOk result (λ text. text.bytes ≡ statement_bytes self.now) }
+    /// The bytes of the statement, as its variants say. These are what is signed. They take no memory.
+    pub fn bytes(&self) -> StatementBytes
+        ensures { result ≡ statement_bytes self.now }
     {
-        let mut text = Text::with_room(alloc, 121)?;
         match self {
             Statement::Held {
                 view,
@@ -56,11 +56,12 @@ impl Statement {
                 tail,
                 count,
             } => {
-                text.push(&[HELD])?;
-                text.push(&view.0)?;
-                text.push(&handle.0)?;
-                text.push(&tail.0)?;
-                text.push(&count.to_be_bytes())?;
+                let mut bytes = StatementBytes::of_kind(HELD);
+                bytes.put(&view.0);
+                bytes.put(&handle.0);
+                bytes.put(&tail.0);
+                bytes.put(&count.to_be_bytes());
+                bytes
             }
             Statement::Latest {
                 view,
@@ -69,21 +70,30 @@ impl Statement {
                 count,
                 nonce,
             } => {
-                text.push(&[LATEST])?;
-                text.push(&view.0)?;
-                text.push(&handle.0)?;
-                text.push(&tail.0)?;
-                text.push(&count.to_be_bytes())?;
-                text.push(&nonce.0)?;
+                let mut bytes = StatementBytes::of_kind(LATEST);
+                bytes.put(&view.0);
+                bytes.put(&handle.0);
+                bytes.put(&tail.0);
+                bytes.put(&count.to_be_bytes());
+                bytes.put(&nonce.0);
+                bytes
             }
             Statement::Final { view, next, map } => {
-                text.push(&[FINAL])?;
-                text.push(&view.0)?;
-                text.push(&next.0)?;
-                text.push(&map.0)?;
+                let mut bytes = StatementBytes::of_kind(FINAL);
+                bytes.put(&view.0);
+                bytes.put(&next.0);
+                bytes.put(&map.0);
+                bytes
             }
         }
-        Ok(text)
+    }
+
+    /// The bytes of the statement in memory of their own.
+    pub fn write(&self, alloc: Global) -> Result<Text, NoMemory>
+        ensures { IfOk result (λ text. text.bytes ≡ statement_bytes self.now) }
+    {
+        let bytes = self.bytes();
+        Text::of(alloc, bytes.as_slice())
     }
 
     /// The statement whose bytes these are. It takes no memory, and `NoMemory` is never its answer. `Kind`
