@@ -21,6 +21,11 @@ pub record IsConfig (members : List Member) : Type 0 where
   pub some : 1 ≤ length members
   pub few : length members ≤ 15
 
+-- the key of the member with this id, None where there is none
+abbrev pub key_of : List Member → ℕ → Option (List ℕ)
+key_of [] id = None
+key_of (member ∷ members) id = if member.id == id then Some member.key else key_of members id
+
 -- what one member weighs
 abbrev pub member_weight : Member → ℕ
 member_weight member = 1

@@ -13,6 +13,12 @@ IsStatement (Held view handle tail count) = (length view ≡ 32) × (length hand
 IsStatement (Latest view handle tail count nonce) = (length view ≡ 32) × (length handle ≡ 32) × (length tail ≡ 32) × (count < 2 ^ 64) × (length nonce ≡ 16)
 IsStatement (Final view next map) = (length view ≡ 32) × (length next ≡ 32) × (length map ≡ 32)
 
+-- the tail of the view in which it is made
+abbrev pub view_of : Statement → List ℕ
+view_of (Held view handle tail count) = view
+view_of (Latest view handle tail count nonce) = view
+view_of (Final view next map) = view
+
 -- Held: the kind, 20 in hexadecimal, view(32), handle(32), tail(32), count(8). Latest: 21, the same, and nonce(16).
 -- Final: 22, view(32), next view(32), map(32).
 abbrev pub statement_bytes : Statement → List ℕ

@@ -3,7 +3,7 @@ ghost use Rattle.std.specs.List.{AllByRecursion};
 ghost use Rattle.statement.specs.declared.member.Member.{Member};
 ghost use Rattle.sha2.specs.Sha256.{sha256};
 ghost use Rattle.statement.specs.Ids.{first_fall};
-ghost use Rattle.statement.specs.Config.{ids, IsMember, IsConfig, weight_of, quorum};
+ghost use Rattle.statement.specs.Config.{ids, IsMember, IsConfig, key_of, weight_of, quorum};
 ghost use Rattle.statement.specs.ConfigForm.{config_bytes, ConfigShows};
 ghost use Rattle.statement.specs.FormFault.{Gives};
 
@@ -81,6 +81,18 @@ impl Config {
         ensures config { IsConfig self.now }
     {
         self.members.as_slice()
+    }
+
+    /// The digest that names a member's key, or `None` where no member has this id.
+    pub fn key(&self, id: u32) -> Option<Digest>
+        ensures { result ≡ key_of self.now id }
+    {
+        for member in &self.members {
+            if member.id == id {
+                return Some(member.key);
+            }
+        }
+        None
     }
 
     /// What a member weighs, which is 1, or `None` where no member has this id.

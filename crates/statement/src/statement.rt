@@ -1,7 +1,7 @@
 ghost use Rattle.std.specs.Prelude.{◌≡◌, ◌↔◌, Ok, Err, IfOk};
 ghost use Rattle.nim_base.specs.declared.form_fault.FormFault.{FormFault};
 ghost use Rattle.statement.specs.declared.statement.Statement.{Statement};
-ghost use Rattle.statement.specs.Statement.{IsStatement, statement_bytes, StatementShows};
+ghost use Rattle.statement.specs.Statement.{IsStatement, view_of, statement_bytes, StatementShows};
 ghost use Rattle.statement.specs.Reading.{GivesJust, Reads, whole, statement_at, held_at, latest_at, final_at};
 
 use crate::reading::{end, read_byte, read_digest, read_nonce, read_u64};
@@ -45,6 +45,17 @@ pub enum Statement {
 }
 
 impl Statement {
+    /// The tail of the view in which the statement is made.
+    pub fn view(&self) -> Digest
+        ensures { result ≡ view_of self.now }
+    {
+        match self {
+            Statement::Held { view, .. }
+            | Statement::Latest { view, .. }
+            | Statement::Final { view, .. } => *view,
+        }
+    }
+
     /// The bytes of the statement, as its variants say. These are what is signed. They take no memory.
     pub fn bytes(&self) -> StatementBytes
         ensures { result ≡ statement_bytes self.now }
