@@ -1,39 +1,11 @@
-use chain_block::MetaBlock;
-use nim_base::{Digest, Text};
+ghost use Rattle.std.specs.Prelude.{◌≡◌, IfOk};
+
+use crate::chain::Chain;
+use crate::final_map::FinalMap;
+use nim_base::NoMemory;
 use statement::{Config, ViewBlock};
+use std::alloc::Global;
 use std::marker::Model;
-use tail_map::TailMap;
-
-/// A member of an ended view, the map that it held when the view ended, and its signature over that.
-#[derive(Debug, Drop)]
-pub struct FinalMap {
-    pub id: u32,
-    pub map: TailMap,
-    pub sig: Text,
-}
-
-impl Model for FinalMap {
-    ghost use Rattle.port.specs.View.{FinalMap};
-
-    ghost Value = { FinalMap };
-
-    ghost view = { λ ended. record { id = ended.id; map = ended.map.rows; sig = ended.sig.bytes } };
-}
-
-/// Metablocks of one ledger that lead from one tail to another.
-#[derive(Debug, Drop)]
-pub struct Chain {
-    pub handle: Digest,
-    pub blocks: Vec<MetaBlock>,
-}
-
-impl Model for Chain {
-    ghost use Rattle.port.specs.View.{Chain};
-
-    ghost Value = { Chain };
-
-    ghost view = { λ chain. record { handle = chain.handle; blocks = chain.blocks.items } };
-}
 
 /// What shows an endorser that the view below has ended, and what it left.
 #[derive(Debug, Drop)]
@@ -50,4 +22,38 @@ impl Model for ActivationProof {
     ghost Value = { ActivationProof };
 
     ghost view = { λ proof. record { old_block = proof.old_block; old_config = proof.old_config; finals = proof.finals.items; chains = proof.chains.items } };
+}
+
+impl ActivationProof {
+    /// The same proof in memory of its own.
+    pub fn copy(&self, alloc: Global) -> Result<ActivationProof, NoMemory>
+        ensures { IfOk result (λ copy. copy ≡ self.now) }
+    {
+        Ok(ActivationProof {
+            old_block: self.old_block,
+            old_config: self.old_config.copy(alloc)?,
+            finals: copy_finals(alloc, self.finals.as_slice())?,
+            chains: copy_chains(alloc, self.chains.as_slice())?,
+        })
+    }
+}
+
+fn copy_finals(alloc: Global, finals: &[FinalMap]) -> Result<Vec<FinalMap>, NoMemory>
+    ensures { IfOk result (λ copies. copies.items ≡ finals.now) }
+{
+    let mut copies = Vec::with_capacity(alloc, finals.len())?;
+    for ended in finals {
+        copies.push(ended.copy(alloc)?)?;
+    }
+    Ok(copies)
+}
+
+fn copy_chains(alloc: Global, chains: &[Chain]) -> Result<Vec<Chain>, NoMemory>
+    ensures { IfOk result (λ copies. copies.items ≡ chains.now) }
+{
+    let mut copies = Vec::with_capacity(alloc, chains.len())?;
+    for chain in chains {
+        copies.push(chain.copy(alloc)?)?;
+    }
+    Ok(copies)
 }

@@ -1,22 +1,10 @@
-use nim_base::{Digest, Text};
+ghost use Rattle.std.specs.Prelude.{◌≡◌, IfOk};
+
+use crate::final_mark::FinalMark;
+use nim_base::NoMemory;
 use statement::{Config, ViewBlock};
+use std::alloc::Global;
 use std::marker::Model;
-
-/// A member of an ended view signed that its map had this digest when the view ended.
-#[derive(Debug, Drop)]
-pub struct FinalMark {
-    pub id: u32,
-    pub map: Digest,
-    pub sig: Text,
-}
-
-impl Model for FinalMark {
-    ghost use Rattle.port.specs.View.{FinalMark};
-
-    ghost Value = { FinalMark };
-
-    ghost view = { λ mark. record { id = mark.id; map = mark.map; sig = mark.sig.bytes } };
-}
 
 /// A view of a service, and the marks of members of the view below that ended it. View 0 has none.
 #[derive(Debug, Drop)]
@@ -32,4 +20,27 @@ impl Model for ViewRow {
     ghost Value = { ViewRow };
 
     ghost view = { λ row. record { block = row.block; config = row.config; finals = row.finals.items } };
+}
+
+impl ViewRow {
+    /// The same view in memory of its own.
+    pub fn copy(&self, alloc: Global) -> Result<ViewRow, NoMemory>
+        ensures { IfOk result (λ copy. copy ≡ self.now) }
+    {
+        Ok(ViewRow {
+            block: self.block,
+            config: self.config.copy(alloc)?,
+            finals: copy_marks(alloc, self.finals.as_slice())?,
+        })
+    }
+}
+
+fn copy_marks(alloc: Global, marks: &[FinalMark]) -> Result<Vec<FinalMark>, NoMemory>
+    ensures { IfOk result (λ copies. copies.items ≡ marks.now) }
+{
+    let mut copies = Vec::with_capacity(alloc, marks.len())?;
+    for mark in marks {
+        copies.push(mark.copy(alloc)?)?;
+    }
+    Ok(copies)
 }
