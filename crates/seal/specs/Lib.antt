@@ -1,1 +1,4 @@
 pub mod Signature
+pub mod Hmac
+pub mod MacKey
+pub mod KeyBook

@@ -9,11 +9,21 @@
 #![tactic(auto)]
 
 mod checker;
+mod keyed_hash;
+mod key_book;
+mod mac_scheme;
+mod mac_signer;
+mod mac_text;
 mod scheme;
 mod sign_fault;
 mod signer;
 
 pub use checker::Checker;
+pub use keyed_hash::hmac;
+pub use key_book::KeyBook;
+pub use mac_scheme::MacScheme;
+pub use mac_signer::MacSigner;
+pub use mac_text::{key_text, secret_text};
 pub use scheme::Scheme;
 pub use sign_fault::SignFault;
 pub use signer::{MAX_SIGNATURE, Signer};
