@@ -2,3 +2,4 @@ pub mod Signature
 pub mod Hmac
 pub mod MacKey
 pub mod KeyBook
+pub mod BookLaws

@@ -2,6 +2,7 @@ use crate::key_book::KeyBook;
 use crate::mac_signer::MacSigner;
 use crate::scheme::Scheme;
 
+/// The stand-in for attested keys. A [`KeyBook`] fits the [`MacSigner`] of each id that it was made of.
 pub struct MacScheme;
 
 impl Scheme for MacScheme {
@@ -13,5 +14,7 @@ impl Scheme for MacScheme {
 
     ghost fits = { λ id ids. Contains ids id };
 
-    ghost accepted = { ? };
+    ghost use Rattle.seal.specs.BookLaws.{fitting};
+
+    ghost accepted = { λ id after ids bytes sig. fitting id after ids bytes sig };
 }

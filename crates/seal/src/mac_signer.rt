@@ -13,7 +13,11 @@ use std::marker::Model;
 const SIZE: usize = 32;
 
 /// A signer that stands in for the attested key of an id. Contracts see it as that id.
-#[derive(Debug, Drop)]
+///
+/// Its secret is the digest of [`secret_text`], its key that of [`key_text`], and its signature over
+/// bytes is [`hmac`] of them under the secret, 32 bytes. It never runs out: the number of signatures left
+/// is always the greatest of 64 bits.
+#[derive(Drop)]
 pub struct MacSigner {
     id: u32,
     secret: Digest,
@@ -32,6 +36,7 @@ impl Model for MacSigner {
 }
 
 impl MacSigner {
+    /// The signer of an id. It takes no memory.
     pub fn of_id(id: u32) -> MacSigner
         ensures { result ≡ id }
     {
@@ -40,12 +45,14 @@ impl MacSigner {
         MacSigner { id, secret, key }
     }
 
+    // The signature over the bytes.
     fn mac(&self, bytes: &[u8]) -> Digest
         ensures { result ≡ mac self.now bytes.now }
     {
         hmac(&self.secret.0, bytes)
     }
 
+    // Whether this is the own key, and this the own signature over the bytes.
     pub(crate) fn signed(&self, key: &Digest, bytes: &[u8], sig: &[u8]) -> bool
         ensures { result ≡ is_signed_by self.now key.now bytes.now sig.now }
     {

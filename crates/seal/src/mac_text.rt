@@ -7,7 +7,8 @@ const SECRET: u8 = 0x41;
 
 const KEY: u8 = 0x40;
 
-/// The text whose SHA-256 digest is the secret of an id: `41`, the id (4).
+/// The text whose SHA-256 digest is the secret of an id: 41 in hexadecimal, and the id in 4 bytes,
+/// big-endian. It takes no memory.
 pub fn secret_text(id: u32) -> [u8; 5]
     ensures { result ≡ secret_text id }
 {
@@ -15,7 +16,8 @@ pub fn secret_text(id: u32) -> [u8; 5]
     [SECRET, a, b, c, d]
 }
 
-/// The text whose SHA-256 digest is the key to a secret: `40`, the secret (32).
+/// The text whose SHA-256 digest is the key to a secret: 40 in hexadecimal, and the secret in 32 bytes.
+/// It takes no memory.
 pub fn key_text(secret: &Digest) -> [u8; 33]
     ensures { result ≡ key_text secret.now }
 {
