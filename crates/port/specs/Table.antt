@@ -1,6 +1,7 @@
 -- The endorser's table: what each call does in each phase.
 use Rattle.std.specs.Prelude.{ℕ, ◌+◌, ◌^◌, ◌==◌, ◌&&◌, ◌||◌, not, nat_lt, Bool, if◌then◌else◌, List, [], ◌∷◌, length, replicate, bytes_eq, Option, Some, None, is_none}
 use Rattle.std.specs.List.{list_any}
+use Rattle.std.specs.Cmp.Lexicographic.{pointwise}
 use Rattle.sha2.specs.Sha256.{sha256}
 use Rattle.chain_block.specs.Tail.{tail_after}
 use Rattle.tail_map.specs.declared.tail_row.TailRow.{TailRow}
@@ -52,13 +53,19 @@ refuses state denial = Answers state (Refused denial)
 abbrev pub own_tail : View → List ℕ
 own_tail view = sha256 (view_block_bytes view.block)
 
+abbrev pub is_same_block : ViewBlock → ViewBlock → Bool
+is_same_block a b = bytes_eq a.prev b.prev && bytes_eq a.config b.config && (a.number == b.number)
+
+abbrev pub is_same_member : Member → Member → Bool
+is_same_member a b = (a.id == b.id) && bytes_eq a.key b.key
+
 -- the same view block, the same config, and a map with the digest of the first one
 abbrev pub is_same : View → ViewBlock → List Member → List TailRow → Bool
 is_same view block config map =
-    bytes_eq (view_block_bytes block) (view_block_bytes view.block) && bytes_eq (config_bytes config) (config_bytes view.config) && bytes_eq (sha256 (map_bytes map)) view.first
+    is_same_block block view.block && pointwise is_same_member config view.config && bytes_eq (sha256 (map_bytes map)) view.first
 
 abbrev pub is_in : Member → List Member → Bool
-is_in me config = list_any (λ member. (member.id == me.id) && bytes_eq member.key me.key) config
+is_in me config = list_any (λ member. is_same_member member me) config
 
 -- Initialize while Uninitialized
 abbrev pub initializes : Member → ViewBlock → List Member → List TailRow → Cell

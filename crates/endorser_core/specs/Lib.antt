@@ -1,0 +1,5 @@
+pub mod Held
+pub mod Move
+pub mod Inactive
+pub mod Shown
+pub mod Endorser

@@ -1,0 +1,155 @@
+ghost use Rattle.std.specs.Prelude.{◌≡◌, IfOk, OnErr};
+ghost use Rattle.port.specs.Call.{call_of, Initialize, Activate, Append, Latest, Finalize, Show};
+ghost use Rattle.port.specs.Answer.{Refused, WrongPhase, answer_of};
+ghost use Rattle.endorser_core.specs.Endorser.{Steps};
+
+use crate::endorser::Endorser;
+use crate::membership::{Membership, Stage};
+use nim_base::{Digest, NoMemory, Nonce};
+use port::{ActivationProof, EndorserAnswer, EndorserCall, EndorserRefusal, Phase};
+use seal::{Scheme, Signer};
+use statement::{Config, Member, ViewBlock};
+use std::alloc::Global;
+use tail_map::TailMap;
+
+impl<G: Scheme> Endorser<G> {
+    /// Answers a call, by the table. A refusal changes nothing and takes no memory, but for the copy of the
+    /// signature in `Finalized`. At want of memory nothing has changed, and no signature was used up.
+    pub fn step(&mut self, alloc: Global, call: &EndorserCall) -> Result<EndorserAnswer, NoMemory>
+        ensures table { IfOk result (λ answer. Steps G.Signer.key_of G.Signer.left_of G.Signer.size_of G.Signer.signs self.old self.new (call_of call.now) (answer_of answer)) }
+        ensures no_memory { OnErr result (self.new ≡ self.old) }
+    {
+        match call {
+            EndorserCall::Initialize { block, config, map } => {
+                self.initialize(alloc, block, config, map)
+            }
+            EndorserCall::Activate { view, proof } => self.activate(alloc, view, proof),
+            EndorserCall::Append {
+                handle,
+                prev,
+                entry,
+                height,
+            } => self.append(alloc, handle, prev, entry, *height),
+            EndorserCall::Latest { handle, nonce } => self.latest(alloc, handle, nonce),
+            EndorserCall::Finalize { config, number } => self.finalize(alloc, config, *number),
+            EndorserCall::Show { handle } => Ok(self.show(handle)),
+        }
+    }
+
+    fn initialize(
+        &mut self,
+        alloc: Global,
+        block: &ViewBlock,
+        config: &Config,
+        map: &TailMap,
+    ) -> Result<EndorserAnswer, NoMemory>
+        ensures table { IfOk result (λ answer. Steps G.Signer.key_of G.Signer.left_of G.Signer.size_of G.Signer.signs self.old self.new (Initialize block.now config.now map.now.rows) (answer_of answer)) }
+        ensures no_memory { OnErr result (self.new ≡ self.old) }
+    {
+        if let Some(held) = &self.membership {
+            return held.begin_again(alloc, block, config, map);
+        }
+        let me = Member {
+            id: self.id,
+            key: self.signer.key(),
+        };
+        match Membership::begin(alloc, &me, block, config, map)? {
+            Ok(held) => {
+                self.membership = Some(held);
+                Ok(EndorserAnswer::Done)
+            }
+            Err(denial) => Ok(EndorserAnswer::Refused(denial)),
+        }
+    }
+
+    fn activate(
+        &mut self,
+        alloc: Global,
+        view: &Digest,
+        proof: &Option<ActivationProof>,
+    ) -> Result<EndorserAnswer, NoMemory>
+        ensures table { IfOk result (λ answer. Steps G.Signer.key_of G.Signer.left_of G.Signer.size_of G.Signer.signs self.old self.new (Activate view.now proof.now) (answer_of answer)) }
+        ensures no_memory { OnErr result (self.new ≡ self.old) }
+    {
+        let Some(held) = &mut self.membership else {
+            return Ok(wrong_phase(Phase::Uninitialized));
+        };
+        match &held.stage {
+            Stage::Initialized => match held.activation(view, proof) {
+                Ok(()) => {
+                    held.stage = Stage::Active;
+                    Ok(EndorserAnswer::Done)
+                }
+                Err(denial) => Ok(EndorserAnswer::Refused(denial)),
+            },
+            Stage::Active if *view == held.tail => Ok(EndorserAnswer::Done),
+            Stage::Active => Ok(EndorserAnswer::Refused(EndorserRefusal::BadView)),
+            Stage::Finalized(ending) => Ok(EndorserAnswer::Refused(ending.refusal(alloc)?)),
+        }
+    }
+
+    fn append(
+        &mut self,
+        alloc: Global,
+        handle: &Digest,
+        prev: &Digest,
+        entry: &Digest,
+        height: u64,
+    ) -> Result<EndorserAnswer, NoMemory>
+        ensures table { IfOk result (λ answer. Steps G.Signer.key_of G.Signer.left_of G.Signer.size_of G.Signer.signs self.old self.new (Append handle.now prev.now entry.now height) (answer_of answer)) }
+        ensures no_memory { OnErr result (self.new ≡ self.old) }
+    {
+        match &mut self.membership {
+            None => Ok(wrong_phase(Phase::Uninitialized)),
+            Some(held) => held.append(alloc, &mut self.signer, handle, prev, entry, height),
+        }
+    }
+
+    fn latest(
+        &mut self,
+        alloc: Global,
+        handle: &Digest,
+        nonce: &Nonce,
+    ) -> Result<EndorserAnswer, NoMemory>
+        ensures table { IfOk result (λ answer. Steps G.Signer.key_of G.Signer.left_of G.Signer.size_of G.Signer.signs self.old self.new (Latest handle.now nonce.now) (answer_of answer)) }
+        ensures no_memory { OnErr result (self.new ≡ self.old) }
+    {
+        match &mut self.membership {
+            None => Ok(wrong_phase(Phase::Uninitialized)),
+            Some(held) => held.latest(alloc, &mut self.signer, handle, nonce),
+        }
+    }
+
+    fn finalize(
+        &mut self,
+        alloc: Global,
+        config: &Digest,
+        number: u64,
+    ) -> Result<EndorserAnswer, NoMemory>
+        ensures table { IfOk result (λ answer. Steps G.Signer.key_of G.Signer.left_of G.Signer.size_of G.Signer.signs self.old self.new (Finalize config.now number) (answer_of answer)) }
+        ensures no_memory { OnErr result (self.new ≡ self.old) }
+    {
+        match &self.membership {
+            None => Ok(wrong_phase(Phase::Uninitialized)),
+            Some(held) => held.finalize(alloc, config, number),
+        }
+    }
+
+    fn show(&mut self, handle: &Digest) -> EndorserAnswer
+        ensures { Steps G.Signer.key_of G.Signer.left_of G.Signer.size_of G.Signer.signs self.old self.new (Show handle.now) (answer_of result) }
+    {
+        let (tail, count) = self.row(handle);
+        EndorserAnswer::Shown {
+            phase: self.phase(),
+            number: self.number(),
+            tail,
+            count,
+        }
+    }
+}
+
+fn wrong_phase(phase: Phase) -> EndorserAnswer
+    ensures { answer_of result ≡ Refused (WrongPhase phase) }
+{
+    EndorserAnswer::Refused(EndorserRefusal::WrongPhase { phase })
+}
