@@ -3,3 +3,5 @@ pub mod Move
 pub mod Inactive
 pub mod Shown
 pub mod Endorser
+pub mod LineAnswer
+pub mod Line

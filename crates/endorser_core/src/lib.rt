@@ -7,9 +7,13 @@
 
 mod appending;
 mod belonging;
+mod cell_answer;
+mod cell_line;
 mod endorser;
 mod membership;
 mod moves;
 mod stepping;
 
+pub use cell_answer::CellAnswer;
+pub use cell_line::CellLine;
 pub use endorser::Endorser;

@@ -14,7 +14,7 @@ mod reading;
 mod tail_map;
 mod tail_row;
 
-pub use laws::one_form;
+pub use laws::{one_form, one_row_changes};
 pub use map_fault::MapFault;
 pub use nim_base::FormFault;
 pub use tail_map::TailMap;

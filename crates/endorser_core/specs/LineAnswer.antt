@@ -1,0 +1,20 @@
+-- What a line keeps of an answer.
+use Rattle.std.specs.Prelude.{ℕ, List, []}
+use Rattle.port.specs.Answer.{Answer, Done, Signed, Finaled, Shown, Refused, denial_of}
+use Rattle.endorser_core.specs.declared.cell_answer.CellAnswer.{CellAnswer}
+use Rattle.endorser_core.specs.declared.cell_answer.CellAnswer.TheVariants as answers
+
+-- the answer with no rows in a Finaled
+abbrev pub kept : Answer → Answer
+kept Done = Done
+kept (Signed statement sig) = Signed statement sig
+kept (Finaled statement sig map) = Finaled statement sig []
+kept (Shown phase number tail count) = Shown phase number tail count
+kept (Refused denial) = Refused denial
+
+abbrev pub kept_of : CellAnswer → Answer
+kept_of answers.Done = Done
+kept_of (answers.Signed statement sig) = Signed statement sig.bytes
+kept_of (answers.Finaled statement sig) = Finaled statement sig.bytes []
+kept_of (answers.Shown phase number tail count) = Shown phase number tail count
+kept_of (answers.Refused refusal) = Refused (denial_of refusal)
