@@ -5,3 +5,4 @@ pub mod Shown
 pub mod Endorser
 pub mod LineAnswer
 pub mod Line
+pub mod Laws

@@ -10,6 +10,7 @@ mod belonging;
 mod cell_answer;
 mod cell_line;
 mod endorser;
+mod laws;
 mod membership;
 mod moves;
 mod stepping;
@@ -17,3 +18,6 @@ mod stepping;
 pub use cell_answer::CellAnswer;
 pub use cell_line::CellLine;
 pub use endorser::Endorser;
+pub use laws::{
+    counts_never_fall, lines_go_on, one_tail_a_count, phases_never_go_back, what_is_signed_is_held,
+};

@@ -1,0 +1,8 @@
+use Rattle.endorser_core.proofs.Cells.{SetLaw, good}
+use Rattle.statement.specs.declared.statement.Statement.TheVariants.{Held}
+use Rattle.port.specs.Table.{cell}
+use Rattle.endorser_core.proofs.Outcomes.{is_held}
+use Rattle.endorser_core.proofs.laws.what_is_signed_is_held.Goals as goal
+
+pub returns : goal.returns
+returns c me state call sig view handle tail count signature e = let law : SetLaw = (c.one_row_changes.ensures.own, c.one_row_changes.ensures.others) in (is_held state (cell me state call) sig (Held view handle tail count) signature (good law me state call) e).0
