@@ -7,6 +7,10 @@
 //! - [`tail_of`] goes from one tail to the next, and [`links`] tests that metablocks lead from one
 //!   tail to another.
 //!
+//! [`entries_have_own_bytes`], [`entries_alone_have_no_fault`], [`metablocks_have_own_bytes`] and
+//! [`links_lead_to_the_tail`] do nothing: the contract of each is a law over all entries, bytes or
+//! metablocks, which callers' proofs take.
+//!
 //! Digests are SHA-256 (FIPS 180-4), and numbers are big-endian.
 
 #![tactic(auto)]

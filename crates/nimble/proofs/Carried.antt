@@ -1,15 +1,16 @@
 -- A quorum of the lists carries each entry that stands.
 use Rattle.std.proofs.Common.{◌≡◌, inl, inr, ℕ, zero, suc, ◌≤◌, List, [], ◌∷◌, ◌++◌, length, map, replicate, Bool, true, cond, refl, sym, ap, ◌∙◌, append_assoc, arith, count_by, ◌||◌, ◌&&◌}
 use Rattle.std.specs.Prelude.{bytes_eq, ◌==◌}
-use Rattle.std.specs.List.{list_any}
+use Rattle.std.specs.List.{All, list_any}
 use Rattle.std.proofs.Math.Bool.{or-true}
 use Rattle.std.proofs.lemmas.Bool.{eq-eqb}
 use Rattle.std.proofs.lemmas.List.{length-replicate}
+use Rattle.std.proofs.lemmas.List.Elements.{All-replicate}
 use Rattle.std.proofs.lemmas.List.Sums.{sum_by-append}
 use Rattle.chain_block.specs.Tail.{tail_of_list-none}
 use Rattle.nimble.specs.declared.endorser.FirstCall.{FirstCall}
 use Rattle.nimble.specs.declared.rows.Row.{Row}
-use Rattle.nimble.specs.Acks.{Ack, AllCarried, Place, acks, acks_of, draws_of, is_for, members, next}
+use Rattle.nimble.specs.Acks.{Ack, AllCarried, AppendJust, Place, acks, acks_of, draws_of, is_for, members, next}
 use Rattle.nimble.specs.Calls.{AllStand, AllStandAlone}
 use Rattle.nimble.specs.Line.{Line, Genesis, New, Append, End, AllWithin}
 use Rattle.nimble.specs.Rows.{calls_of}
@@ -57,6 +58,14 @@ carried n rows (row ∷ some) above among = (
 
 pub all_carried : (n : ℕ) (rows : List Row) → 1 ≤ n → AllCarried (replicate n (calls_of rows)) (map ack_of rows)
 all_carried n rows above = carried n rows rows above (λ row has. has)
+
+-- each list has the calls that appended the rows
+rows_append : (rows : List Row) → AppendJust (map ack_of rows) (calls_of rows)
+rows_append [] = refl
+rows_append (row ∷ rows) = ap (λ acks. ack_of row ∷ acks) (rows_append rows)
+
+pub append_just : (n : ℕ) (rows : List Row) → All (AppendJust (map ack_of rows)) (replicate n (calls_of rows))
+append_just n rows = All-replicate (AppendJust (map ack_of rows)) n (calls_of rows) (rows_append rows)
 
 pub some_members : (ls : List Line) → is_script ls ≡ true → AllWithin ls → 1 ≤ length (members ls)
 some_members [] good within = cc

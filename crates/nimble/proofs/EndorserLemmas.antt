@@ -10,7 +10,7 @@ use Rattle.chain_block.specs.Tail.{tail_of_list, tail_of_list-push, tail_after}
 use Rattle.nimble.specs.declared.endorser.EndorserRow.{EndorserRow}
 use Rattle.nimble.specs.declared.endorser.FirstCall.{FirstCall}
 use Rattle.nimble.specs.Calls.{digests_of, ledger_count, StandsAfter, AllStand}
-use Rattle.nimble.specs.EndorserRows.{place_of, row_of, Keeps, Keep}
+use Rattle.nimble.specs.EndorserRows.{place_of, row_of, StandsFor, AreRowsOf}
 use Rattle.nimble.proofs.Bytes.{same_bytes, bytes_eq-self}
 
 -- one more at the end of a list that is kept from one item to the next
@@ -35,12 +35,12 @@ all_stand-push before (first ∷ calls) call all stands = (
 )
 
 -- a ledger that has a place has digests
-pub place_some : (rows : List EndorserRow) (handle : List ℕ) (i : ℕ) → place_of rows handle ≡ Some i → (i < length rows) × ((digests : List (List ℕ)) → Keeps (row_of rows handle) digests → 0 < length digests)
+pub place_some : (rows : List EndorserRow) (handle : List ℕ) (i : ℕ) → place_of rows handle ≡ Some i → (i < length rows) × ((digests : List (List ℕ)) → StandsFor (row_of rows handle) digests → 0 < length digests)
 place_some [] handle i e = cc
 place_some (first ∷ rows) handle i e = go (bytes_eq first.handle handle) e (λ j p. place_some rows handle j p) where
   later : (found : Option ℕ) → place_of rows handle ≡ found → option_map (λ n. n + 1) found ≡ Some i
-      → ((j : ℕ) → place_of rows handle ≡ Some j → (j < length rows) × ((digests : List (List ℕ)) → Keeps (row_of rows handle) digests → 0 < length digests))
-      → (i < suc (length rows)) × ((digests : List (List ℕ)) → Keeps (row_of rows handle) digests → 0 < length digests)
+      → ((j : ℕ) → place_of rows handle ≡ Some j → (j < length rows) × ((digests : List (List ℕ)) → StandsFor (row_of rows handle) digests → 0 < length digests))
+      → (i < suc (length rows)) × ((digests : List (List ℕ)) → StandsFor (row_of rows handle) digests → 0 < length digests)
   later None p e rest = cc
   later (Some j) p e rest =
       let is : j + 1 ≡ i = cc in
@@ -48,8 +48,8 @@ place_some (first ∷ rows) handle i e = go (bytes_eq first.handle handle) e (λ
       (omega (arith, is, at.0), at.1)
 
   go : (b : Bool) → cond b (Some 0) (option_map (λ n. n + 1) (place_of rows handle)) ≡ Some i
-      → ((j : ℕ) → place_of rows handle ≡ Some j → (j < length rows) × ((digests : List (List ℕ)) → Keeps (row_of rows handle) digests → 0 < length digests))
-      → (i < suc (length rows)) × ((digests : List (List ℕ)) → Keeps (cond b (Some first) (row_of rows handle)) digests → 0 < length digests)
+      → ((j : ℕ) → place_of rows handle ≡ Some j → (j < length rows) × ((digests : List (List ℕ)) → StandsFor (row_of rows handle) digests → 0 < length digests))
+      → (i < suc (length rows)) × ((digests : List (List ℕ)) → StandsFor (cond b (Some first) (row_of rows handle)) digests → 0 < length digests)
   go true e rest = let is : 0 ≡ i = cc in (omega (arith, is), λ digests keeps. keeps.2)
   go false e rest = later (place_of rows handle) refl e rest
 
@@ -143,7 +143,7 @@ begins-above height above = ap (λ b. cond b 1 0) (ne_eqb height 0 (λ e. omega 
 pub begins-none : (height : ℕ) → height ≡ 0 → begins height ≡ 1
 begins-none height e = ap (λ b. cond b 1 0) (eq-eqb height 0 e)
 
-keeps_here : (call : FirstCall) (row : EndorserRow) (calls : List FirstCall) → StandsAfter calls call → IsRowAfter call row → Keeps (Some row) (digests_of calls call.handle ++ call.entry ∷ [])
+keeps_here : (call : FirstCall) (row : EndorserRow) (calls : List FirstCall) → StandsAfter calls call → IsRowAfter call row → StandsFor (Some row) (digests_of calls call.handle ++ call.entry ∷ [])
 keeps_here call row calls stands after =
     let digests = digests_of calls call.handle in (
       after.tail ∙ ap (λ prev. tail_after prev call.entry call.height) stands.prev ∙ ap (tail_after (tail_of_list digests) call.entry) stands.height ∙ sym (tail_of_list-push digests call.entry),
@@ -152,20 +152,20 @@ keeps_here call row calls stands after =
     )
 
 -- the rows with the new one are what the calls with the new one leave
-pub keep_more : (rows more : List EndorserRow) (calls : List FirstCall) (call : FirstCall) (row : EndorserRow) → Keep rows calls → StandsAfter calls call → IsRowAfter call row
+pub keep_more : (rows more : List EndorserRow) (calls : List FirstCall) (call : FirstCall) (row : EndorserRow) → AreRowsOf rows calls → StandsAfter calls call → IsRowAfter call row
     → ((other : List ℕ) → row_of more other ≡ cond (bytes_eq call.handle other) (Some row) (row_of rows other))
-    → length more ≡ length rows + begins call.height → Keep more (calls ++ call ∷ [])
+    → length more ≡ length rows + begins call.height → AreRowsOf more (calls ++ call ∷ [])
 keep_more rows more calls call row keep stands after found count = record {
   each = λ other. go other (bytes_eq call.handle other) refl;
   count = count ∙ ap (λ n. n + begins call.height) keep.count ∙ sym (ledger_count-push calls call);
 } where
-  go : (other : List ℕ) (b : Bool) → bytes_eq call.handle other ≡ b → Keeps (row_of more other) (digests_of (calls ++ call ∷ []) other)
+  go : (other : List ℕ) (b : Bool) → bytes_eq call.handle other ≡ b → StandsFor (row_of more other) (digests_of (calls ++ call ∷ []) other)
   go other true equal =
       let same : call.handle ≡ other = same_bytes call.handle other equal in
-      subst (λ (o : Option EndorserRow). Keeps o (digests_of (calls ++ call ∷ []) other)) (sym (found other ∙ ap (λ b. cond b (Some row) (row_of rows other)) equal))
-      (subst (λ (ds : List (List ℕ)). Keeps (Some row) ds) (sym (digests_of-push calls call other ∙ ap (λ b. cond b (digests_of calls other ++ call.entry ∷ []) (digests_of calls other)) equal))
-      (subst (λ (h : List ℕ). Keeps (Some row) (digests_of calls h ++ call.entry ∷ [])) same (keeps_here call row calls stands after)))
+      subst (λ (o : Option EndorserRow). StandsFor o (digests_of (calls ++ call ∷ []) other)) (sym (found other ∙ ap (λ b. cond b (Some row) (row_of rows other)) equal))
+      (subst (λ (ds : List (List ℕ)). StandsFor (Some row) ds) (sym (digests_of-push calls call other ∙ ap (λ b. cond b (digests_of calls other ++ call.entry ∷ []) (digests_of calls other)) equal))
+      (subst (λ (h : List ℕ). StandsFor (Some row) (digests_of calls h ++ call.entry ∷ [])) same (keeps_here call row calls stands after)))
   go other false differ =
-      subst (λ (o : Option EndorserRow). Keeps o (digests_of (calls ++ call ∷ []) other)) (sym (found other ∙ ap (λ b. cond b (Some row) (row_of rows other)) differ))
-      (subst (λ (ds : List (List ℕ)). Keeps (row_of rows other) ds) (sym (digests_of-push calls call other ∙ ap (λ b. cond b (digests_of calls other ++ call.entry ∷ []) (digests_of calls other)) differ))
+      subst (λ (o : Option EndorserRow). StandsFor o (digests_of (calls ++ call ∷ []) other)) (sym (found other ∙ ap (λ b. cond b (Some row) (row_of rows other)) differ))
+      (subst (λ (ds : List (List ℕ)). StandsFor (row_of rows other) ds) (sym (digests_of-push calls call other ∙ ap (λ b. cond b (digests_of calls other ++ call.entry ∷ []) (digests_of calls other)) differ))
       (keep.each other))

@@ -28,10 +28,6 @@ pub keeps_all : (known : Option (List ℕ)) → Keeps known known
 keeps_all None = tt
 keeps_all (Some bytes) = refl
 
-pub says_nothing : (left old : Option (List ℕ)) → SaysFront left old old
-says_nothing None old = tt
-says_nothing (Some input) old = inl (keeps_all old)
-
 -- what was read is what the input begins with, and the rest is left
 pub judged_input : (old new : Option (List ℕ)) (text : List ℕ) → Read old text → Consumes old new text → IsJudged old new
 judged_input None new text read took = tt
@@ -48,7 +44,7 @@ says status text bytes (Some input) old new read said wrote = (bytes, said_to st
 
 pub says_front : (status : ℕ) (text bytes : List ℕ) (left old new : Option (List ℕ)) → Read left text → IsSaid status (script_of text) bytes → (n : ℕ) × Appends old new (take n bytes) → SaysFront left old new
 says_front status text bytes None old new read said wrote = tt
-says_front status text bytes (Some input) old new read said wrote = inr (status, bytes, wrote.0, said_to status input text bytes read said, wrote.1)
+says_front status text bytes (Some input) old new read said wrote = (status, bytes, wrote.0, said_to status input text bytes read said, wrote.1)
 
 -- the statuses with which something is said
 pub said_status : (status : ℕ) (script : Option (List Line)) (bytes : List ℕ) → IsSaid status script bytes → Contains (0 ∷ 2 ∷ 3 ∷ 4 ∷ 5 ∷ 6 ∷ []) status × (status ≤ 3)

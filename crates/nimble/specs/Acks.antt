@@ -1,5 +1,5 @@
 -- The entries that the lines `ok` of a script name, and the calls that stand behind them.
-use Rattle.std.specs.Prelude.{⊤, ℕ, Bool, ◌&&◌, ◌+◌, ◌/◌, ◌≤◌, List, [], ◌∷◌, ◌++◌, length, replicate, bytes_eq, count_by, ◌==◌, if◌then◌else◌}
+use Rattle.std.specs.Prelude.{◌≡◌, ⊤, ℕ, Bool, ◌&&◌, ◌+◌, ◌/◌, ◌≤◌, List, [], ◌∷◌, ◌++◌, length, map, replicate, bytes_eq, count_by, ◌==◌, if◌then◌else◌}
 use Rattle.std.specs.List.{list_any}
 use Rattle.std.specs.Int.{to_be_bytes, w64}
 use Rattle.sha2.specs.Sha256.{sha256}
@@ -62,6 +62,14 @@ acks_of at End = []
 abbrev pub acks : Place → List Line → List Ack
 acks at [] = []
 acks at (line ∷ lines) = acks_of at line ++ acks (next at line) lines
+
+-- the entry that a call appends
+abbrev pub appended : FirstCall → Ack
+appended call = record { line = call.line; handle = call.handle; height = call.height; entry = call.entry }
+
+-- the calls append these entries, in their order, and no other
+abbrev pub AppendJust : List Ack → List FirstCall → Type 0
+AppendJust acks calls = map appended calls ≡ acks
 
 -- a call for this entry, made in its script line
 abbrev pub is_for : Ack → FirstCall → Bool

@@ -17,11 +17,11 @@ row_of [] handle = None
 row_of (row ∷ rows) handle = if bytes_eq row.handle handle then Some row else row_of rows handle
 
 -- the row has the tail and count of these digests, and there is none where there are no digests
-abbrev pub Keeps : Option EndorserRow → List (List ℕ) → Type 0
-Keeps None digests = digests ≡ []
-Keeps (Some row) digests = (row.tail ≡ tail_of_list digests) × (row.count ≡ length digests) × (0 < length digests)
+abbrev pub StandsFor : Option EndorserRow → List (List ℕ) → Type 0
+StandsFor None digests = digests ≡ []
+StandsFor (Some row) digests = (row.tail ≡ tail_of_list digests) × (row.count ≡ length digests) × (0 < length digests)
 
 -- the rows are what the calls leave
-pub record Keep (rows : List EndorserRow) (calls : List FirstCall) : Type 0 where
-  pub each : (handle : List ℕ) → Keeps (row_of rows handle) (digests_of calls handle)
+pub record AreRowsOf (rows : List EndorserRow) (calls : List FirstCall) : Type 0 where
+  pub each : (handle : List ℕ) → StandsFor (row_of rows handle) (digests_of calls handle)
   pub count : length rows ≡ ledger_count calls

@@ -1,7 +1,7 @@
 -- How a run ends: what it says to an input, and how much of it is written.
 use Rattle.std.specs.Prelude.{◌≡◌, ◌⊎◌, ℕ, List, [], ◌∷◌, take, drop, bytes_eq, Option, Some, None, IfSome, Bool, false, codes}
 use Rattle.std.specs.List.{concat}
-use Rattle.std.specs.Io.KnownBytes.{Appends, Keeps}
+use Rattle.std.specs.Io.KnownBytes.{Appends}
 use Rattle.nim_base.specs.Text.{Content}
 use Rattle.nimble.specs.Line.{Line}
 use Rattle.nimble.specs.Reply.{bad_script_line, exhibit_line}
@@ -27,10 +27,10 @@ IsSaid status (Some lines) bytes = ((status ≡ 0) × AreReplies lines bytes) �
 abbrev pub Says : ℕ → Option (List ℕ) → Option (List ℕ) → Option (List ℕ) → Type 0
 Says status left old new = IfSome left (λ input. (bytes : List ℕ) × IsSaid status (script_of input) bytes × Appends old new bytes)
 
--- where the input is told, nothing was written, or the front of what is said to it
+-- where the input is told, the front of what is said to it was written
 abbrev pub SaysFront : Option (List ℕ) → Option (List ℕ) → Option (List ℕ) → Type 0
 SaysFront left old new =
-    IfSome left (λ input. Keeps old new ⊎ ((status : ℕ) × (bytes : List ℕ) × (n : ℕ) × IsSaid status (script_of input) bytes × Appends old new (take n bytes)))
+    IfSome left (λ input. (status : ℕ) × (bytes : List ℕ) × (n : ℕ) × IsSaid status (script_of input) bytes × Appends old new (take n bytes))
 
 -- where the input is told, it was read to its end or through 1,048,577 bytes, and no further
 abbrev pub IsJudged : Option (List ℕ) → Option (List ℕ) → Type 0

@@ -32,10 +32,12 @@ height word = option_and_then (λ n. if nat_lt 0 n && nat_le n 4294967295 then S
 
 -- the line that these words make
 abbrev pub line_of_words : List (List ℕ) → Option Line
-line_of_words (a ∷ []) = if bytes_eq a (codes "end") then Some End else None
-line_of_words (a ∷ b ∷ []) = if bytes_eq a (codes "genesis") then option_map (λ ns. Genesis ns) (ids b) else None
-line_of_words (a ∷ b ∷ c ∷ d ∷ []) = if bytes_eq a (codes "new") && (is_name b && (is_name c && is_payload d)) then Some (New b c (drop 1 d)) else None
-line_of_words (a ∷ b ∷ c ∷ d ∷ e ∷ []) = if bytes_eq a (codes "append") && (is_name b && (is_name c && is_payload e)) then option_map (λ h. Append b c h (drop 1 e)) (height d) else None
+line_of_words (kind ∷ []) = if bytes_eq kind (codes "end") then Some End else None
+line_of_words (kind ∷ members ∷ []) = if bytes_eq kind (codes "genesis") then option_map (λ ns. Genesis ns) (ids members) else None
+line_of_words (kind ∷ client ∷ label ∷ payload ∷ []) =
+    if bytes_eq kind (codes "new") && (is_name client && (is_name label && is_payload payload)) then Some (New client label (drop 1 payload)) else None
+line_of_words (kind ∷ client ∷ label ∷ place ∷ payload ∷ []) =
+    if bytes_eq kind (codes "append") && (is_name client && (is_name label && is_payload payload)) then option_map (λ h. Append client label h (drop 1 payload)) (height place) else None
 line_of_words _ = None
 
 -- what each line that is read keeps: an id, heights and payloads within their limits

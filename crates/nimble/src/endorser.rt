@@ -69,13 +69,13 @@ impl Model for Endorser {
     ghost use Rattle.std.specs.Prelude.{[], List};
     ghost use Rattle.nimble.specs.declared.endorser.FirstCall.{FirstCall};
     ghost use Rattle.nimble.specs.Calls.{AllStand};
-    ghost use Rattle.nimble.specs.EndorserRows.{Keep};
+    ghost use Rattle.nimble.specs.EndorserRows.{AreRowsOf};
 
     ghost Value = { List FirstCall };
 
     ghost view = { λ endorser. endorser.calls.items };
 
-    ghost invariant = { λ endorser. Keep endorser.rows.items endorser.calls.items × AllStand [] endorser.calls.items };
+    ghost invariant = { λ endorser. AreRowsOf endorser.rows.items endorser.calls.items × AllStand [] endorser.calls.items };
 }
 
 impl Endorser {

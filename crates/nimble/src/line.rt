@@ -68,24 +68,24 @@ fn height(word: &[u8]) -> Option<u64>
     }
 }
 
-fn end_line(a: &[u8]) -> Option<FirstLine>
-    ensures { option_map line_seen result ≡ line_of_words (a.now ∷ []) }
+fn end_line(kind: &[u8]) -> Option<FirstLine>
+    ensures { option_map line_seen result ≡ line_of_words (kind.now ∷ []) }
 {
-    if a == b"end".as_slice() {
+    if kind == b"end".as_slice() {
         Some(FirstLine::End)
     } else {
         None
     }
 }
 
-fn genesis_line(alloc: Global, a: &[u8], b: &[u8]) -> Result<Option<FirstLine>, NoMemory>
+fn genesis_line(alloc: Global, kind: &[u8], members: &[u8]) -> Result<Option<FirstLine>, NoMemory>
     ensures { IfOk result (λ found. option_map line_seen found
-        ≡ line_of_words (a.now ∷ b.now ∷ [])) }
+        ≡ line_of_words (kind.now ∷ members.now ∷ [])) }
 {
-    if a != b"genesis".as_slice() {
+    if kind != b"genesis".as_slice() {
         return Ok(None);
     }
-    match ids(alloc, b)? {
+    match ids(alloc, members)? {
         Some(ids) => Ok(Some(FirstLine::Genesis { ids })),
         None => Ok(None),
     }
@@ -93,19 +93,19 @@ fn genesis_line(alloc: Global, a: &[u8], b: &[u8]) -> Result<Option<FirstLine>, 
 
 fn new_line(
     alloc: Global,
-    a: &[u8],
-    b: &[u8],
-    c: &[u8],
-    d: &[u8],
+    kind: &[u8],
+    client: &[u8],
+    label: &[u8],
+    payload: &[u8],
 ) -> Result<Option<FirstLine>, NoMemory>
     ensures { IfOk result (λ found. option_map line_seen found
-        ≡ line_of_words (a.now ∷ b.now ∷ c.now ∷ d.now ∷ [])) }
+        ≡ line_of_words (kind.now ∷ client.now ∷ label.now ∷ payload.now ∷ [])) }
 {
-    if a == b"new".as_slice() && is_name(b) && is_name(c) && is_payload(d) {
+    if kind == b"new".as_slice() && is_name(client) && is_name(label) && is_payload(payload) {
         return Ok(Some(FirstLine::New {
-            client: Text::of(alloc, b)?,
-            label: Text::of(alloc, c)?,
-            payload: Text::of(alloc, &d[1..])?,
+            client: Text::of(alloc, client)?,
+            label: Text::of(alloc, label)?,
+            payload: Text::of(alloc, &payload[1..])?,
         }));
     }
     Ok(None)
@@ -113,22 +113,22 @@ fn new_line(
 
 fn append_line(
     alloc: Global,
-    a: &[u8],
-    b: &[u8],
-    c: &[u8],
-    d: &[u8],
-    e: &[u8],
+    kind: &[u8],
+    client: &[u8],
+    label: &[u8],
+    place: &[u8],
+    payload: &[u8],
 ) -> Result<Option<FirstLine>, NoMemory>
     ensures { IfOk result (λ found. option_map line_seen found
-        ≡ line_of_words (a.now ∷ b.now ∷ c.now ∷ d.now ∷ e.now ∷ [])) }
+        ≡ line_of_words (kind.now ∷ client.now ∷ label.now ∷ place.now ∷ payload.now ∷ [])) }
 {
-    if a == b"append".as_slice() && is_name(b) && is_name(c) && is_payload(e) {
-        if let Some(height) = height(d) {
+    if kind == b"append".as_slice() && is_name(client) && is_name(label) && is_payload(payload) {
+        if let Some(height) = height(place) {
             return Ok(Some(FirstLine::Append {
-                client: Text::of(alloc, b)?,
-                label: Text::of(alloc, c)?,
+                client: Text::of(alloc, client)?,
+                label: Text::of(alloc, label)?,
                 height,
-                payload: Text::of(alloc, &e[1..])?,
+                payload: Text::of(alloc, &payload[1..])?,
             }));
         }
     }
@@ -141,10 +141,12 @@ pub fn read_line(alloc: Global, line: &[u8]) -> Result<Option<FirstLine>, NoMemo
 {
     let words = parts(alloc, line, b' ')?;
     match words.as_slice() {
-        [a] => Ok(end_line(a)),
-        [a, b] => genesis_line(alloc, a, b),
-        [a, b, c, d] => new_line(alloc, a, b, c, d),
-        [a, b, c, d, e] => append_line(alloc, a, b, c, d, e),
+        [kind] => Ok(end_line(kind)),
+        [kind, members] => genesis_line(alloc, kind, members),
+        [kind, client, label, payload] => new_line(alloc, kind, client, label, payload),
+        [kind, client, label, place, payload] => {
+            append_line(alloc, kind, client, label, place, payload)
+        }
         // the check learns what each of the other lengths is from an arm of its own
         [] => Ok(None),
         [_, _, _] => Ok(None),

@@ -1,5 +1,5 @@
-ghost use Rattle.std.specs.Prelude.{◌≡◌, IfOk, length, map};
-ghost use Rattle.nimble.specs.Acks.{AllCarried, acks, begin, members};
+ghost use Rattle.std.specs.Prelude.{◌≡◌, All, IfOk, length, map};
+ghost use Rattle.nimble.specs.Acks.{AllCarried, AppendJust, acks, begin, members};
 ghost use Rattle.nimble.specs.Calls.{AllStandAlone};
 ghost use Rattle.nimble.specs.Collision.{NoCollision};
 ghost use Rattle.nimble.specs.Replies.{empty, replies};
@@ -42,6 +42,8 @@ pub fn first_path(alloc: Global, script: &FirstScript) -> Result<FirstRun, NoMem
         ≡ length (members (lines_seen script.now.lines.items))) }
     ensures stand { IfOk result (λ run.
         AllStandAlone (map (λ list. list.items) run.lists.items)) }
+    ensures calls { IfOk result (λ run. All (AppendJust (acks begin (lines_seen script.now.lines.items)))
+        (map (λ list. list.items) run.lists.items)) }
     ensures carried { IfOk result (λ run. AllCarried (map (λ list. list.items) run.lists.items)
         (acks begin (lines_seen script.now.lines.items))) }
 {

@@ -37,9 +37,9 @@ pub fn run_replay<S: Source, K: Sink>(alloc: Global, source: &mut S, sink: &mut 
     ensures read_fault { result.0 ≡ 4 → Rose (S.fault_count source.old) (S.fault_count source.new)
         × Keeps (K.written sink.old) (K.written sink.new) }
     ensures write_fault { result.0 ≡ 5 → Rose (K.fault_count sink.old) (K.fault_count sink.new)
-        × SaysFront (S.left source.old) (K.written sink.old) (K.written sink.new) }
-    ensures no_memory { result.0 ≡ 6
-        → SaysFront (S.left source.old) (K.written sink.old) (K.written sink.new) }
+        × SaysFront (S.left source.old) (K.written sink.old) (K.written sink.new)
+        × IsJudged (S.left source.old) (S.left source.new) }
+    ensures no_memory { result.0 ≡ 6 → Keeps (K.written sink.old) (K.written sink.new) }
 {
     let text = match read_input(alloc, source) {
         Ok(text) => text,

@@ -1,13 +1,14 @@
 use Rattle.std.proofs.Common.{◌≡◌, ◌+◌, ◌++◌, ◌∷◌, [], length, get_or, map, drop, replicate, refl, sym, ap, subst, ◌∙◌, arith, List, ℕ}
+use Rattle.std.specs.List.{All}
 use Rattle.std.proofs.lemmas.List.{append-nil, at_drop_all, drop_more, length-replicate, map_push}
 use Rattle.nimble.specs.declared.endorser.FirstCall.{FirstCall}
 use Rattle.nimble.specs.declared.line.FirstLine.{FirstLine}
-use Rattle.nimble.specs.Acks.{Ack, AllCarried, Place, acks, begin, members, next}
+use Rattle.nimble.specs.Acks.{Ack, AllCarried, AppendJust, Place, acks, begin, members, next}
 use Rattle.nimble.specs.Replies.{empty, replies}
 use Rattle.nimble.specs.Rows.{ledgers_of}
 use Rattle.nimble.specs.Seen.{line_seen, lines_seen, said}
 use Rattle.nimble.specs.Service.{AllGo, ack_of, begun, place_of}
-use Rattle.nimble.proofs.Carried.{acked_more, all_carried, draws_small, no_ledgers, some_members, told_more}
+use Rattle.nimble.proofs.Carried.{acked_more, all_carried, append_just, draws_small, no_ledgers, some_members, told_more}
 use Rattle.nimble.proofs.Going.{script_goes}
 use Rattle.nimble.proofs.Within.{script_within}
 use Rattle.nimble.proofs.path.first_path.Goals as goal
@@ -63,6 +64,19 @@ loop-i-preserved c =
       subst (λ (p : Place). AllGo p (begun new.rows.items) (lines_seen rest)) (sym moved.place) (subst (λ (t : List (List ℕ)). AllGo (next at (line_seen line)) t (lines_seen rest)) (sym moved.taken) going),
       omega (arith, ap (λ p. p.draws) moved.place, draws_small (line_seen line), c.loop-i.invariant.6),
     )
+
+pub returns-clause-calls : goal.returns-clause-calls
+returns-clause-calls c =
+    let items = c.args.script.now.lines.items in
+    let all = lines_seen items in
+    let service = c.loop-i.service in
+    let rows = service.rows.items in
+    let at : Place = place_of (c.loop-i.i + 1) service.draws rows in
+    let acked : map ack_of rows ≡ acks begin all =
+    sym (append-nil (map ack_of rows)) ∙ ap (λ ls. map ack_of rows ++ acks at (lines_seen ls)) (sym (at_drop_all (λ ls. ls) items c.loop-i.i (omega arith))) ∙ c.loop-i.invariant.1 in
+    subst (λ (done : List Ack). All (AppendJust done) (map (λ list. list.items) c.in_ok-lists_of.field-0.items)) acked
+    (subst (All (AppendJust (map ack_of rows))) (sym (c.in_ok-lists_of.ensures.lists ∙ c.loop-i.invariant.3))
+    (append_just (length service.endorsers.items) rows))
 
 pub returns-clause-carried : goal.returns-clause-carried
 returns-clause-carried c =

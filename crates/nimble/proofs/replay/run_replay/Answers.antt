@@ -2,7 +2,7 @@ use Rattle.std.proofs.Common.{List, ℕ, refl, subst, arith}
 use Rattle.std.specs.List.{flat_map}
 use Rattle.nimble.specs.Ends.{IsSaid}
 use Rattle.nimble.specs.Script.{script_of}
-use Rattle.nimble.proofs.Saying.{says_with, says_front, said_status}
+use Rattle.nimble.proofs.Saying.{judged_input, says_with, says_front, said_status}
 use Rattle.nimble.proofs.replay.run_replay.Goals as goal
 
 pub returns-in-Ok-put_lines-clause-known : goal.returns-in-Ok-put_lines-clause-known
@@ -39,4 +39,5 @@ returns-clause-write_fault g c =
     λ _. (
       c.in-Err-put_lines.ensures.cause.failed,
       says_front status text bytes (g.S.Source.left c.args.source.now) (g.K.Sink.written c.args.sink.now) (g.K.Sink.written c.put_lines.new.sink) c.in-Ok.ensures.text said wrote,
+      judged_input (g.S.Source.left c.args.source.now) (g.S.Source.left c.read_input.new.source) text c.in-Ok.ensures.text c.in-Ok.ensures.read,
     )

@@ -3,7 +3,7 @@ use Rattle.std.proofs.lemmas.List.{length-append, length-set}
 use Rattle.nimble.specs.declared.endorser.FirstCall.{FirstCall}
 use Rattle.nimble.specs.declared.endorser.EndorserRow.{EndorserRow}
 use Rattle.nimble.specs.Calls.{Fits, digests_of}
-use Rattle.nimble.specs.EndorserRows.{Keeps, place_of}
+use Rattle.nimble.specs.EndorserRows.{StandsFor, place_of}
 use Rattle.nimble.proofs.EndorserLemmas.{keep_more, row_of-set, row_of-push, place_some, place_none, all_stand-push, begins-above, begins-none}
 use Rattle.nimble.proofs.endorser.Endorser.append.Goals as goal
 
@@ -38,7 +38,7 @@ invariant_of-self-in-None c =
     let found : place_of rows call.handle ≡ None =
     ap (λ rs. place_of rs call.handle) (sym c.in_ok-reserve.ensures.items ∙ sym c.deref.ensures.value) ∙ sym c.in-None.ensures in
     let row : EndorserRow = record { handle = call.handle; tail = c.tail_of.result; count = call.height + 1 } in
-    let none : length (digests_of calls call.handle) ≡ 0 = ap length (subst (λ (o : Option EndorserRow). Keeps o (digests_of calls call.handle)) (place_none rows call.handle found) (c.self.invariant.0.each call.handle)) in
+    let none : length (digests_of calls call.handle) ≡ 0 = ap length (subst (λ (o : Option EndorserRow). StandsFor o (digests_of calls call.handle)) (place_none rows call.handle found) (c.self.invariant.0.each call.handle)) in
     rw (c.push_reserved.ensures.items, c.in_ok-push.ensures.items, c.in_ok-reserve.ensures.items) (
       keep_more rows _ calls call row c.self.invariant.0 fits.stands (record { handle = refl; tail = c.tail_of.ensures.digest; count = refl })
           (row_of-push rows call.handle row found refl)
