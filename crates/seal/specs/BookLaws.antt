@@ -1,10 +1,9 @@
 -- A book accepts just what the signers of its ids sign.
-use Rattle.std.proofs.Common.{◌≡◌, ◌≤◌, ◌↔◌, ℕ, List, length, true, Contains, refl, sym, ap, subst, ◌∙◌, bytes_eq, arith}
+use Rattle.std.proofs.Common.{◌≡◌, ◌↔◌, ℕ, List, length, true, Contains, refl, sym, ap, subst, ◌∙◌, bytes_eq, arith}
 use Rattle.std.proofs.lemmas.Bool.{and_from, and_parts}
 use Rattle.std.proofs.lemmas.List.Folds.{Any-from_list_any, list_any_at}
 use Rattle.std.proofs.lemmas.Slice.Eq.{bytes_eq-Decides}
 use Rattle.sha2.proofs.Facts256.{length-sha256}
-use Rattle.seal.specs.Hmac.{hmac}
 use Rattle.seal.specs.KeyBook.{is_signed_by, book_accepts, IsSignedByOne}
 use Rattle.seal.specs.MacKey.{mac_key, mac}
 use Rattle.seal.specs.Signature.{IsSize}

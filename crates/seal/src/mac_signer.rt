@@ -6,7 +6,7 @@ use crate::keyed_hash::hmac;
 use crate::mac_text::{key_text, secret_text};
 use crate::sign_fault::SignFault;
 use crate::signer::Signer;
-use nim_base::{Digest, NoMemory, Text, digest_of};
+use nim_base::{Digest, Text, digest_of};
 use std::alloc::Global;
 use std::marker::Model;
 

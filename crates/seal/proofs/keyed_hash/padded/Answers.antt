@@ -1,7 +1,7 @@
 -- The block is the key and what the zeros have behind its length.
 use Rattle.std.proofs.Common.{◌≡◌, ◌++◌, ◌∙◌, ap, length, drop, replicate}
 use Rattle.std.proofs.lemmas.List.{drop-replicate}
-use Rattle.seal.specs.Hmac.{key_block, xor_each}
+use Rattle.seal.specs.Hmac.{xor_each}
 use Rattle.seal.proofs.keyed_hash.padded.Goals as goal
 
 pub returns : goal.returns

@@ -1,5 +1,5 @@
 -- The byte at the index is written as the map says.
-use Rattle.std.proofs.Common.{◌<◌, length, sym, bit_xor, arith}
+use Rattle.std.proofs.Common.{◌<◌, length, bit_xor, arith}
 use Rattle.std.proofs.lemmas.List.{get_or_default}
 use Rattle.std.proofs.lemmas.List.Edits.{map_over_more}
 use Rattle.seal.proofs.keyed_hash.xor_each.Goals as goal

@@ -1,5 +1,5 @@
 -- What the book accepts has the size of a signature.
-use Rattle.std.proofs.Common.{◌≡◌, sym, ◌∙◌}
+use Rattle.std.proofs.Common.{sym, ◌∙◌}
 use Rattle.seal.specs.BookLaws.{accepted_size}
 use Rattle.seal.proofs.key_book.KeyBookChecker.check.Goals as goal
 
