@@ -1,0 +1,4 @@
+pub mod Totals
+pub mod Numbers
+pub mod StepLemmas
+pub mod AllPasses

@@ -1,0 +1,4 @@
+pub mod ClockName
+pub mod Stamps
+pub mod Rule
+pub mod Steps
