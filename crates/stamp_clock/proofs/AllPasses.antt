@@ -1,8 +1,8 @@
 -- What the rule says of all passes together.
-use Rattle.std.proofs.Common.{◌≡◌, ℕ, zero, suc, ◌+◌, ◌^◌, ◌<◌, ◌≤◌, List, [], ◌∷◌, ◌++◌, length, get_or, refl, sym, subst, ◌∙◌, arith}
+use Rattle.std.proofs.Common.{◌≡◌, ℕ, zero, suc, ◌+◌, ◌^◌, ◌<◌, ◌≤◌, List, [], ◌∷◌, length, get_or, refl, ◌∙◌, arith}
 use Rattle.std.specs.List.{All, flat_map}
 use Rattle.stamp_clock.specs.declared.steps.Known.{Known}
-use Rattle.stamp_clock.specs.Stamps.{times, below, EachOnce, NoneTwice}
+use Rattle.stamp_clock.specs.Stamps.{times, EachOnce, NoneTwice}
 use Rattle.stamp_clock.specs.Rule.{total, IsKept}
 use Rattle.stamp_clock.proofs.Totals.{total_le}
 use Rattle.stamp_clock.proofs.Numbers.{times-append, below_le, all_below}
