@@ -1,6 +1,9 @@
-//! What no contract says of the parts of the service: vectors from outside, and each call once.
+//! What no contract says of signing, the endorser, views, clocks and passes: outside vectors, whole
+//! exchanges, that ample memory suffices, and what only running threads show.
 
 #![tactic(auto)]
 
+#[cfg(test)]
+mod clocks;
 #[cfg(test)]
 mod signing;
