@@ -1,8 +1,8 @@
-//! Measures the parts, each beside its floor: the operation of std or of the kit that it can't do without, on as
-//! many threads and as often, timed in the same run.
+//! Measures the parts, each beside its floor: the operation of std or of the kit that it can't do without,
+//! as often and on as many threads, timed in the same run.
 //!
-//! Without words it makes one small round of each and prints its counts, which are the same in each run. With
-//! the word `figures` it makes a long round of each and prints how many calls there were in a second.
+//! Without words it makes one small round of each and prints its counts, which are the same in each run.
+//! With the word `figures` it makes a long round of each and prints how many calls there were in a second.
 
 #![tactic(auto)]
 

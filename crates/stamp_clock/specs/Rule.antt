@@ -13,8 +13,8 @@ abbrev pub total : {A : Type 0} → (A → ℕ) → List A → ℕ
 total f [] = 0
 total f (x ∷ xs) = f x + total f xs
 
--- each number below the word stands once in the lists of all passes together, and no other number in any; the lists
--- have as many numbers as the word says; the word and what all passes have left or set aside are 2^63 together
+-- each number below the word stands once in the lists of all passes together, and no other number in any; the
+-- lists have as many numbers as the word says; the word and what all passes have left or aside are 2^63 together
 pub record IsKept (word : ℕ) (passes : List Known) : Type 0 where
   pub each : (number : ℕ) → total (λ (pass : Known). times number pass.drawn) passes ≡ below word number
   pub drawn : total (λ (pass : Known). length pass.drawn) passes ≡ word

@@ -35,10 +35,10 @@ impl<K: ClockName> Model for Clock<K> {
 }
 
 impl<K: ClockName> Clock<K> {
-    /// Draws the next stamp: one fetch_add of the word. It waits for nothing and takes no memory.
+    /// Draws the next stamp, by one fetch_add of the word. It waits for nothing and takes no memory.
     ///
-    /// Whatever other passes of this clock draw meanwhile, none of them gets this number: by the clock's rule
-    /// a number stands once in the lists of all passes together.
+    /// Whatever other passes of this clock draw meanwhile, none of them gets this number: by the clock's
+    /// rule a number stands once in the lists of all passes together ([`crate::passes_share_no_number`]).
     pub fn stamp(&self, pass: &mut Pass<K>) -> u64
         requires left { 0 < pass.old.left }
         ensures drawn { pass.new ≡ stamps (pass.old.drawn ++ result ∷ []) (pass.old.left - 1) }
@@ -93,9 +93,9 @@ impl<K: ClockName> Clock<K> {
         pass.left += left;
     }
 
-    /// Ends the clock. The answer is the number of stamps that were drawn with this pass and all that were
-    /// joined into it. Where these are all passes, no other has a stamp left or drawn, and the stamps are 0 up to
-    /// that number.
+    /// Ends the clock. The answer is how many stamps were drawn with this pass and all that were joined into
+    /// it. Where these are all passes of the clock, what they drew and have left is 2^63 together, and the
+    /// stamps are the numbers from 0 up to the answer.
     pub fn close(self, pass: Pass<K>) -> u64
         ensures counted { result ≡ length pass.drawn }
         ensures none_twice { NoneTwice pass.drawn }

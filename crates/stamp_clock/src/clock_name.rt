@@ -1,7 +1,7 @@
 use std::marker::Brand;
 
-/// Names one clock. It has no calls and no value: its ghost member is the identity of the clock's word, so that
-/// a type with this parameter says which clock it is of, also behind a lock.
+/// Names one clock. It has no calls: its ghost member is the identity of the clock's word. So a type with
+/// this parameter says which clock it is of, also where it comes out of a lock.
 pub trait ClockName {
     ghost use Rattle.atomic_table.specs.Seated.{TableId};
 

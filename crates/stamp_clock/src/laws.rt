@@ -9,8 +9,9 @@ use crate::clock_name::ClockName;
 use crate::clock_start::ClockStart;
 use crate::pass::Pass;
 
-/// What the rule over a clock's word says of all its passes, at any time.
-pub fn what_the_rule_says()
+/// What the rule says of all passes of a clock, at any time: no number stands twice in their lists, and each
+/// is below the word.
+pub fn passes_share_no_number()
     ensures each_once { (word : ℕ) (passes : List Known) → IsKept word passes
         → EachOnce (flat_map (λ pass. pass.drawn) passes) word }
     ensures none_twice { (word : ℕ) (passes : List Known) → IsKept word passes
@@ -22,7 +23,7 @@ pub fn what_the_rule_says()
 {}
 
 /// How often a number stands in lists, for those who bring the lists of several passes together.
-pub fn counts_of_numbers()
+pub fn counts_add_up()
     ensures append { (number : ℕ) (one other : List ℕ)
         → times number (one ++ other) ≡ times number one + times number other }
     ensures none_twice { (numbers : List ℕ) (count : ℕ) → EachOnce numbers count → NoneTwice numbers }

@@ -4,8 +4,8 @@ use atomic_table::{Join, Play, Split, TableRule};
 use std::collections::LinkedList;
 use std::marker::{Brand, PhantomData};
 
-/// What stands for one pass beside the word: the stamps that it drew, how many it has left, and how many of
-/// these are set aside for a pass that is about to be split off. Only contracts speak of it: no value is made.
+/// What is known of one pass beside the word: the stamps that it drew, how many it has left, and how many
+/// are set aside for a pass that is about to be split off. Only contracts speak of it: no value is made.
 pub struct Known {
     pub drawn: LinkedList<u64>,
     pub left: u64,

@@ -1,6 +1,6 @@
 use Rattle.stamp_clock.proofs.Numbers.{times-append}
 use Rattle.stamp_clock.proofs.AllPasses.{once_none_twice, once_below}
-use Rattle.stamp_clock.proofs.laws.counts_of_numbers.Goals as goal
+use Rattle.stamp_clock.proofs.laws.counts_add_up.Goals as goal
 
 pub returns-clause-append : goal.returns-clause-append
 returns-clause-append c = times-append

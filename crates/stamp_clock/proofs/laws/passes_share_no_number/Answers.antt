@@ -1,5 +1,5 @@
 use Rattle.stamp_clock.proofs.AllPasses.{all_each_once, all_none_twice, each_below, left_bound}
-use Rattle.stamp_clock.proofs.laws.what_the_rule_says.Goals as goal
+use Rattle.stamp_clock.proofs.laws.passes_share_no_number.Goals as goal
 
 pub returns-clause-each_once : goal.returns-clause-each_once
 returns-clause-each_once c = all_each_once
