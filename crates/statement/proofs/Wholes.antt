@@ -44,6 +44,9 @@ kinded kind lt p Good form shows reader =
 -- ---- all of the bytes
 
 module _ {A : Type 0} (p : List ℕ → Result (A × List ℕ) FormFault) (Good : A → Type 0) (form : A → List ℕ) (shows : List ℕ → FormFault → Type 0) (reader : IsReader p Good form shows) where
+  abbrev failed : FormFault → Result A FormFault
+  failed f = Err f
+
   abbrev last : (A × List ℕ) → Result A FormFault
   last x = cond (ltb 0 (length x.1)) (Err Trailing) (Ok x.0)
 
@@ -85,6 +88,15 @@ module _ {A : Type 0} (p : List ℕ → Result (A × List ℕ) FormFault) (Good 
 
   pub one_form : (a b : A) → Good a → Good b → form a ≡ form b → a ≡ b
   one_form a b good_a good_b e = ok_is a b (sym (whole_again a good_a) ∙ ap (λ bs. whole (p bs)) e ∙ whole_again b good_b)
+
+  err_is : (f g : FormFault) → failed f ≡ failed g → f ≡ g
+  err_is f g e = cc
+
+  pub one_fault : (bytes : List ℕ) (f g : FormFault) → ShowsInWhole Good form shows bytes f → ShowsInWhole Good form shows bytes g → f ≡ g
+  one_fault bytes f g shown_f shown_g = err_is f g (sym (shown_whole bytes f shown_f) ∙ shown_whole bytes g shown_g)
+
+  pub no_fault : (a : A) (f : FormFault) → Good a → ¬ ShowsInWhole Good form shows (form a) f
+  no_fault a f good shown = let never : Ok a ≡ Err f = sym (whole_again a good) ∙ shown_whole (form a) f shown in cc
 
   -- from what a function answered to what its contract says
 

@@ -30,8 +30,8 @@ mod view_block;
 pub use config::{Config, MAX_MEMBERS};
 pub use config_fault::ConfigFault;
 pub use laws::{
-    configs_have_own_bytes, quorums_meet, receipts_have_own_bytes, statements_have_own_bytes,
-    view_blocks_have_own_bytes,
+    configs_have_own_bytes, configs_show_one_fault, quorums_meet, receipts_have_own_bytes,
+    statements_have_own_bytes, view_blocks_have_own_bytes,
 };
 pub use mark::Mark;
 pub use member::Member;
