@@ -4,3 +4,8 @@ pub mod View
 pub mod Call
 pub mod Answer
 pub mod Table
+pub mod Field
+pub mod RowForm
+pub mod ViewForm
+pub mod FinalsForm
+pub mod Finding

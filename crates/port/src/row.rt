@@ -1,10 +1,17 @@
-ghost use Rattle.std.specs.Prelude.{◌≡◌, ◌↔◌, IsTrue, IfOk};
-ghost use Rattle.chain_block.specs.Entry.{bare, entry_digest, handle_of, height_of, nonce_of};
+ghost use Rattle.std.specs.Prelude.{◌≡◌, ◌↔◌, ◌⊎◌, length, Ok, Err, IsTrue, IfOk, IfErr};
+ghost use Rattle.nim_base.specs.declared.form_fault.FormFault.{FormFault};
+ghost use Rattle.chain_block.specs.Entry.{IsWithinLimits, bare, entry_bytes, entry_digest, handle_of, height_of, nonce_of};
+ghost use Rattle.statement.specs.FormFault.{Gives};
+ghost use Rattle.port.specs.Row.{Content};
+ghost use Rattle.port.specs.RowForm.{IsRow, row_bytes, RowShows};
 
-use chain_block::{Entry, MetaBlock};
-use nim_base::{Digest, NoMemory, Nonce};
+use crate::row_reading::read_whole;
+use chain_block::{Entry, MetaBlock, entries_have_own_bytes, metablocks_have_own_bytes};
+use nim_base::{Digest, FormFault, NoMemory, Nonce, Text};
 use std::alloc::Global;
 use std::marker::Model;
+
+pub(crate) const KIND: u8 = 0x50;
 
 /// One entry of a ledger as it is stored: the entry, within its limits, and its metablock.
 #[derive(Debug, Drop)]
@@ -60,6 +67,41 @@ impl Row {
         is_same(entry, &self.entry)
     }
 
+    /// The bytes of the row: the kind 50 in hexadecimal, the length of the entry in 4 bytes, the entry, and
+    /// the metablock in 73.
+    pub fn write(&self, alloc: Global) -> Result<Text, NoMemory>
+        ensures { IfOk result (λ text. text.bytes ≡ row_bytes self.now) }
+    {
+        let entry = self.entry.write(alloc)?;
+        let mut text = Text::of(alloc, &[KIND])?;
+        text.push(&size_of(&self.entry).to_be_bytes())?;
+        text.push(entry.bytes())?;
+        text.push(&self.metablock.bytes())?;
+        Ok(text)
+    }
+
+    /// The row whose bytes these are. A refusal names the fault that shows first, from the front, where the
+    /// fields have the lengths that [`write`](Row::write) says:
+    ///
+    /// - `Kind` shows at the first byte, where it isn't that of a row.
+    /// - `Value` shows where the bytes of the entry are no entry's, and where those of the metablock are no
+    ///   metablock's.
+    /// - `Short` shows where the bytes end inside a field. What a whole field before shows comes first.
+    /// - `Trailing` shows at a byte after the metablock.
+    pub fn read(alloc: Global, bytes: &[u8]) -> Result<Row, FormFault>
+        // What is read is what a row writes, and that row is read from it, unless memory runs out.
+        ensures found { IfOk result (λ row. IsRow row × (bytes.now ≡ row_bytes row)) }
+        ensures only { (row : Content) → IsRow row → bytes.now ≡ row_bytes row → Gives result (Ok row) }
+
+        // A refusal is the fault that shows first, and that fault is the refusal, unless memory runs out.
+        ensures fault { IfErr result (λ fault. (fault ≡ FormFault.NoMemory) ⊎ RowShows bytes.now fault) }
+        ensures first { (fault : FormFault) → RowShows bytes.now fault → Gives result (Err fault) }
+    {
+        entries_have_own_bytes();
+        metablocks_have_own_bytes();
+        read_whole(alloc, bytes)
+    }
+
     /// The same row in memory of its own.
     pub fn copy(&self, alloc: Global) -> Result<Row, NoMemory>
         ensures { IfOk result (λ copy. copy ≡ self.now) }
@@ -102,5 +144,27 @@ fn is_same(entry: &Entry, other: &Entry) -> bool
                 && payload.bytes() == other_payload.bytes()
         }
         _ => false,
+    }
+}
+
+// How many bytes the entry has.
+fn size_of(entry: &Entry) -> u32
+    requires { IsWithinLimits entry.now }
+    ensures { result ≡ length (entry_bytes entry.now) }
+{
+    match entry {
+        Entry::Genesis { nonce, payload } => {
+            let nonce = &nonce.0;
+            (1 + nonce.len() + 4 + payload.bytes().len()) as u32
+        }
+        Entry::Later {
+            handle,
+            nonce,
+            payload,
+            ..
+        } => {
+            let (handle, nonce) = (&handle.0, &nonce.0);
+            (1 + handle.len() + 8 + nonce.len() + 4 + payload.bytes().len()) as u32
+        }
     }
 }

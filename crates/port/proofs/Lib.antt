@@ -1,0 +1,6 @@
+pub mod Forms
+pub mod Lists
+pub mod RowForms
+pub mod ViewForms
+pub mod FinalsForms
+pub mod Steps
