@@ -14,6 +14,11 @@ pub record Line : Type 0 where
   pub call : Call
   pub answer : Answer
 
+-- the line of a call and its answer
+abbrev pub line : ℕ → Call → Answer → Line
+line stamp call answer = record { stamp = stamp; call = call; answer = kept answer }
+
+-- the signature in an answer
 abbrev pub sig_of : Answer → Option (List ℕ)
 sig_of Done = None
 sig_of (Signed statement sig) = Some sig
@@ -23,11 +28,11 @@ sig_of (Refused denial) = None
 
 -- the state after a line: that of the table, with the line's own signature
 abbrev pub state_after : Member → State → Line → State
-state_after me state line = (outcome state (cell me state line.call) (sig_of line.answer)).0
+state_after me state last = (outcome state (cell me state last.call) (sig_of last.answer)).0
 
 abbrev pub replay_from : Member → State → List Line → State
 replay_from me state [] = state
-replay_from me state (line ∷ lines) = replay_from me (state_after me state line) lines
+replay_from me state (first ∷ lines) = replay_from me (state_after me state first) lines
 
 -- the state after these lines
 abbrev pub replay : Member → List Line → State
@@ -41,13 +46,13 @@ IsAccepted accepts key (Some statement) (Some sig) = accepts key (statement_byte
 
 -- The answer is the table's. Any signature is lawful that the checker accepts under the member's key, and so is Spent
 -- where one is asked for.
-pub record IsLawfulAt (accepts : List ℕ → List ℕ → List ℕ → Bool) (me : Member) (state : State) (line : Line) : Type 0 where
-  pub answer : kept (outcome state (cell me state line.call) (sig_of line.answer)).1 ≡ line.answer
-  pub accepted : IsAccepted accepts me.key (asked (cell me state line.call)) (sig_of line.answer)
+pub record IsLawfulAt (accepts : List ℕ → List ℕ → List ℕ → Bool) (me : Member) (state : State) (next : Line) : Type 0 where
+  pub answer : kept (outcome state (cell me state next.call) (sig_of next.answer)).1 ≡ next.answer
+  pub accepted : IsAccepted accepts me.key (asked (cell me state next.call)) (sig_of next.answer)
 
 abbrev pub IsLawfulFrom : (List ℕ → List ℕ → List ℕ → Bool) → Member → State → List Line → Type 0
 IsLawfulFrom accepts me state [] = Unit {0}
-IsLawfulFrom accepts me state (line ∷ lines) = IsLawfulAt accepts me state line × IsLawfulFrom accepts me (state_after me state line) lines
+IsLawfulFrom accepts me state (first ∷ lines) = IsLawfulAt accepts me state first × IsLawfulFrom accepts me (state_after me state first) lines
 
 -- each line is lawful after those before it
 abbrev pub IsLawful : (List ℕ → List ℕ → List ℕ → Bool) → Member → List Line → Type 0

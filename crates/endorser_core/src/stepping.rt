@@ -1,7 +1,9 @@
-ghost use Rattle.std.specs.Prelude.{◌≡◌, IfOk, OnErr};
+ghost use Rattle.std.specs.Prelude.{◌≡◌, ◌+◌, ◌≤◌, ℕ, max, IfOk, OnErr};
 ghost use Rattle.port.specs.Call.{call_of, Initialize, Activate, Append, Latest, Finalize, Show};
 ghost use Rattle.port.specs.Answer.{Refused, WrongPhase, answer_of};
-ghost use Rattle.endorser_core.specs.Endorser.{Steps};
+ghost use Rattle.endorser_core.specs.Endorser.{Steps, me};
+ghost use Rattle.endorser_core.specs.Line.{IsLawfulAt, line, state_after};
+ghost use Rattle.endorser_core.specs.Shown.{kept_size, sig_size};
 
 use crate::endorser::Endorser;
 use crate::membership::{Membership, Stage};
@@ -10,12 +12,36 @@ use port::{ActivationProof, EndorserAnswer, EndorserCall, EndorserRefusal, Phase
 use seal::{Scheme, Signer};
 use statement::{Config, Member, ViewBlock};
 use std::alloc::Global;
-use tail_map::TailMap;
+use tail_map::{TailMap, one_row_changes};
 
 impl<G: Scheme> Endorser<G> {
     /// Answers a call, by the table. A refusal changes nothing and takes no memory, but for the copy of the
     /// signature in `Finalized`. At want of memory nothing has changed, and no signature was used up.
     pub fn step(&mut self, alloc: Global, call: &EndorserCall) -> Result<EndorserAnswer, NoMemory>
+        ensures table { IfOk result (λ answer. Steps G.Signer.key_of G.Signer.left_of G.Signer.size_of G.Signer.signs self.old self.new (call_of call.now) (answer_of answer)) }
+        ensures no_memory { OnErr result (self.new ≡ self.old) }
+
+        // What stays after every answer, and how long the signature in one is.
+        ensures same_id { self.new.id ≡ self.old.id }
+        ensures same_checker { self.new.checker ≡ self.old.checker }
+        ensures same_key { G.Signer.key_of self.new.signer ≡ G.Signer.key_of self.old.signer }
+        ensures same_size { G.Signer.size_of self.new.signer ≡ G.Signer.size_of self.old.signer }
+        ensures one { G.Signer.left_of self.old.signer ≤ G.Signer.left_of self.new.signer + 1 }
+        ensures no_more { G.Signer.left_of self.new.signer ≤ G.Signer.left_of self.old.signer }
+        ensures size { IfOk result (λ answer. sig_size (answer_of answer) ≤ max (G.Signer.size_of self.old.signer) (kept_size self.old.state)) }
+
+        // A checker that fits the signer still does, and then the line of this step is lawful after those before.
+        ensures fits { G.fits self.old.signer self.old.checker → G.fits self.new.signer self.new.checker }
+        ensures lawful { IfOk result (λ answer. G.fits self.old.signer self.old.checker → (stamp : ℕ)
+            → IsLawfulAt (G.Checker.accepts self.old.checker) (me G.Signer.key_of self.old) self.old.state (line stamp (call_of call.now) (answer_of answer))) }
+        ensures replayed { IfOk result (λ answer. (stamp : ℕ)
+            → state_after (me G.Signer.key_of self.old) self.old.state (line stamp (call_of call.now) (answer_of answer)) ≡ self.new.state) }
+    {
+        one_row_changes();
+        self.respond(alloc, call)
+    }
+
+    fn respond(&mut self, alloc: Global, call: &EndorserCall) -> Result<EndorserAnswer, NoMemory>
         ensures table { IfOk result (λ answer. Steps G.Signer.key_of G.Signer.left_of G.Signer.size_of G.Signer.signs self.old self.new (call_of call.now) (answer_of answer)) }
         ensures no_memory { OnErr result (self.new ≡ self.old) }
     {
