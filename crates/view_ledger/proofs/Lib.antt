@@ -1,0 +1,7 @@
+pub mod Weights
+pub mod Tails
+pub mod Firsts
+pub mod Signers
+pub mod ReceiptLaws
+pub mod Extending
+pub mod KeptViews

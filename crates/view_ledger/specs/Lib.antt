@@ -1,0 +1,4 @@
+pub mod Views
+pub mod Receipts
+pub mod Extension
+pub mod Kept
