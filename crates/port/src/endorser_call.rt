@@ -1,6 +1,10 @@
+ghost use Rattle.std.specs.Prelude.{◌≡◌, IfOk};
+ghost use Rattle.port.specs.Call.{call_of};
+
 use crate::activation_proof::ActivationProof;
-use nim_base::{Digest, Nonce};
+use nim_base::{Digest, NoMemory, Nonce};
 use statement::{Config, ViewBlock};
+use std::alloc::Global;
 use tail_map::TailMap;
 
 /// What an endorser is asked.
@@ -38,4 +42,55 @@ pub enum EndorserCall {
     Show {
         handle: Digest,
     },
+}
+
+impl EndorserCall {
+    /// The same call in memory of its own.
+    pub fn copy(&self, alloc: Global) -> Result<EndorserCall, NoMemory>
+        ensures { IfOk result (λ copy. call_of copy ≡ call_of self.now) }
+    {
+        Ok(match self {
+            EndorserCall::Initialize { block, config, map } => EndorserCall::Initialize {
+                block: *block,
+                config: config.copy(alloc)?,
+                map: map.copy(alloc)?,
+            },
+            EndorserCall::Activate { view, proof } => EndorserCall::Activate {
+                view: *view,
+                proof: copy_proof(alloc, proof)?,
+            },
+            EndorserCall::Append {
+                handle,
+                prev,
+                entry,
+                height,
+            } => EndorserCall::Append {
+                handle: *handle,
+                prev: *prev,
+                entry: *entry,
+                height: *height,
+            },
+            EndorserCall::Latest { handle, nonce } => EndorserCall::Latest {
+                handle: *handle,
+                nonce: *nonce,
+            },
+            EndorserCall::Finalize { config, number } => EndorserCall::Finalize {
+                config: *config,
+                number: *number,
+            },
+            EndorserCall::Show { handle } => EndorserCall::Show { handle: *handle },
+        })
+    }
+}
+
+fn copy_proof(
+    alloc: Global,
+    proof: &Option<ActivationProof>,
+) -> Result<Option<ActivationProof>, NoMemory>
+    ensures { IfOk result (λ copy. copy ≡ proof.now) }
+{
+    match proof {
+        None => Ok(None),
+        Some(proof) => Ok(Some(proof.copy(alloc)?)),
+    }
 }
