@@ -19,7 +19,7 @@ use Rattle.port.specs.declared.phase.Phase.TheVariants as phases
 use Rattle.port.specs.declared.proof_cause.ProofCause.TheVariants as causes
 use Rattle.port.specs.View.{ActivationProof}
 use Rattle.port.specs.Call.{Call, Initialize, Activate, Append, Latest, Finalize, Show}
-use Rattle.port.specs.Answer.{Denial, BadView, NotMember, BadProof, Behind, Stands, OtherTail, NotGenesis, Tall, Full, WrongPhase, HasEnded, OtherNext, Answer, Done, Signed, Finaled, Shown, Refused}
+use Rattle.port.specs.Answer.{Denial, BadView, NotMember, BadProof, Behind, Stands, OtherTail, NotGenesis, Tall, Full, WrongPhase, HasEnded, OtherNext, LogFull, Answer, Done, Signed, Finaled, Shown, Refused}
 use Rattle.port.specs.Table.{refuses, is_in, has_ended, signs_held, is_same, own_tail, View, Ending, State, Uninitialized, Initialized, Active, Finalized, Cell, Answers, Signs, initializes, activates, appends, held, ends_again, cell}
 use Rattle.endorser_core.specs.Shown.{row_of, kept_size, sig_size}
 use Rattle.endorser_core.specs.Laws.{rank, count_of}
@@ -59,6 +59,7 @@ pub record Quiet (before after : State) (answer : Answer) : Type 0 where
   pub one : OneMore before after
   pub size : sig_size answer ≤ kept_size before
   pub unsigned : IsUnsigned answer
+  pub not_full : answer ≢ Refused LogFull
 
 pub record Signing (before : State) (statement : Statement) (sig : List ℕ) (after : State) (answer : Answer) : Type 0 where
   pub keeps : Keeps before after
@@ -86,12 +87,12 @@ one_stays (Initialized own) = tt
 one_stays (Active own) = λ handle. omega arith
 one_stays (Finalized own ending) = tt
 
-quiet : (state : State) (answer : Answer) → sig_size answer ≤ kept_size state → IsUnsigned answer → Quiet state state answer
-quiet state answer size unsigned = record { keeps = stays state; one = one_stays state; size = size; unsigned = unsigned }
+quiet : (state : State) (answer : Answer) → sig_size answer ≤ kept_size state → IsUnsigned answer → answer ≢ Refused LogFull → Quiet state state answer
+quiet state answer size unsigned not_full = record { keeps = stays state; one = one_stays state; size = size; unsigned = unsigned; not_full = not_full }
 
 -- a refusal without a signature
-refused : (state : State) (denial : Denial) → sig_size (Refused denial) ≡ 0 → Good state (refuses state denial)
-refused state denial size = quiet state (Refused denial) (omega arith) tt
+refused : (state : State) (denial : Denial) → sig_size (Refused denial) ≡ 0 → Refused denial ≢ Refused LogFull → Good state (refuses state denial)
+refused state denial size not_full = quiet state (Refused denial) (omega arith) tt not_full
 
 -- ---- a row is set
 
@@ -139,13 +140,14 @@ begun view = record {
   one = tt;
   size = omega arith;
   unsigned = tt;
+  not_full = λ e. absurd cc;
 }
 
 good_initializes : (me : Member) (block : ViewBlock) (config : List Member) (map : List TailRow) → Good Uninitialized (initializes me block config map)
 good_initializes me block config map =
-    choose Uninitialized (not (block.number == 0)) (refuses Uninitialized BadView) _ (λ _. refused Uninitialized BadView refl) (λ _.
-    choose Uninitialized (not (bytes_eq (sha256 (config_bytes config)) block.config)) (refuses Uninitialized BadView) _ (λ _. refused Uninitialized BadView refl) (λ _.
-    choose Uninitialized (not (is_in me config)) (refuses Uninitialized NotMember) _ (λ _. refused Uninitialized NotMember refl) (λ _. begun _)))
+    choose Uninitialized (not (block.number == 0)) (refuses Uninitialized BadView) _ (λ _. refused Uninitialized BadView refl (λ e. absurd cc)) (λ _.
+    choose Uninitialized (not (bytes_eq (sha256 (config_bytes config)) block.config)) (refuses Uninitialized BadView) _ (λ _. refused Uninitialized BadView refl (λ e. absurd cc)) (λ _.
+    choose Uninitialized (not (is_in me config)) (refuses Uninitialized NotMember) _ (λ _. refused Uninitialized NotMember refl (λ e. absurd cc)) (λ _. begun _)))
 
 activated : (own : View) → Quiet (Initialized own) (Active own) Done
 activated own = record {
@@ -153,13 +155,14 @@ activated own = record {
   one = tt;
   size = omega arith;
   unsigned = tt;
+  not_full = λ e. absurd cc;
 }
 
 good_activates : (own : View) (view : List ℕ) (proof : Option ActivationProof) → Good (Initialized own) (activates own view proof)
 good_activates own view proof =
-    choose (Initialized own) (not (bytes_eq view (own_tail own))) (refuses (Initialized own) BadView) _ (λ _. refused (Initialized own) BadView refl) (λ _.
+    choose (Initialized own) (not (bytes_eq view (own_tail own))) (refuses (Initialized own) BadView) _ (λ _. refused (Initialized own) BadView refl (λ e. absurd cc)) (λ _.
     choose (Initialized own) (not ((own.block.number == 0) && is_none proof && bytes_eq own.block.prev (replicate 32 0) && (length own.map == 0))) (refuses (Initialized own) (BadProof causes.First)) _
-    (λ _. refused (Initialized own) (BadProof causes.First) refl)
+    (λ _. refused (Initialized own) (BadProof causes.First) refl (λ e. absurd cc))
     (λ _. activated own))
 
 -- the row that stands is signed again
@@ -170,17 +173,17 @@ signed_again own handle tail count row some sig = record { keeps = stays (Active
 good_appends : SetLaw → (own : View) (handle prev entry : List ℕ) (height : ℕ) (tail : List ℕ) (count : ℕ) → get own.map handle ≡ (tail, count)
     → Good (Active own) (appends own handle prev entry height tail count)
 good_appends law own handle prev entry height tail count row =
-    choose (Active own) (nat_lt count height) (refuses (Active own) (Behind count)) _ (λ _. refused (Active own) (Behind count) refl) (λ not_behind.
+    choose (Active own) (nat_lt count height) (refuses (Active own) (Behind count)) _ (λ _. refused (Active own) (Behind count) refl (λ e. absurd cc)) (λ not_behind.
     choose (Active own) (nat_lt height count) (if (count == height + 1) && bytes_eq tail (tail_after prev entry height) then signs_held own own handle tail count else refuses (Active own) (Stands count tail)) _
     (λ over.
     choose (Active own) ((count == height + 1) && bytes_eq tail (tail_after prev entry height)) (signs_held own own handle tail count) (refuses (Active own) (Stands count tail))
     (λ _. signed_again own handle tail count row (let lt : height < count = ltb-true height count over in omega arith))
-    (λ _. refused (Active own) (Stands count tail) refl))
+    (λ _. refused (Active own) (Stands count tail) refl (λ e. absurd cc)))
     (λ not_over.
-    choose (Active own) (not (bytes_eq tail prev)) (refuses (Active own) (OtherTail tail)) _ (λ _. refused (Active own) (OtherTail tail) refl) (λ _.
-    choose (Active own) ((height == 0) && not (bytes_eq entry handle)) (refuses (Active own) NotGenesis) _ (λ _. refused (Active own) NotGenesis refl) (λ _.
-    choose (Active own) (height == 2 ^ 32) (refuses (Active own) Tall) _ (λ _. refused (Active own) Tall refl) (λ _.
-    choose (Active own) (not (has_handle own.map handle) && (length own.map == 4096)) (refuses (Active own) Full) _ (λ _. refused (Active own) Full refl) (λ _.
+    choose (Active own) (not (bytes_eq tail prev)) (refuses (Active own) (OtherTail tail)) _ (λ _. refused (Active own) (OtherTail tail) refl (λ e. absurd cc)) (λ _.
+    choose (Active own) ((height == 0) && not (bytes_eq entry handle)) (refuses (Active own) NotGenesis) _ (λ _. refused (Active own) NotGenesis refl (λ e. absurd cc)) (λ _.
+    choose (Active own) (height == 2 ^ 32) (refuses (Active own) Tall) _ (λ _. refused (Active own) Tall refl (λ e. absurd cc)) (λ _.
+    choose (Active own) (not (has_handle own.map handle) && (length own.map == 4096)) (refuses (Active own) Full) _ (λ _. refused (Active own) Full refl (λ e. absurd cc)) (λ _.
     let at_least : height ≤ count = ltb-false count height not_behind in
     let at_most : count ≤ height = ltb-false height count not_over in
     let is : (get own.map handle).1 ≡ count = ap (λ (r : List ℕ × ℕ). r.1) row in
@@ -190,16 +193,16 @@ good_appends law own handle prev entry height tail count row =
 -- ---- the table
 
 in_phase : (state : State) (phase : Phase) → Good state (refuses state (WrongPhase phase))
-in_phase state phase = refused state (WrongPhase phase) refl
+in_phase state phase = refused state (WrongPhase phase) refl (λ e. absurd cc)
 
 ended : (own : View) (ending : Ending) → Good (Finalized own ending) (has_ended own ending)
-ended own ending = quiet (Finalized own ending) (Refused (HasEnded ending.statement ending.sig)) (omega arith) tt
+ended own ending = quiet (Finalized own ending) (Refused (HasEnded ending.statement ending.sig)) (omega arith) tt (λ e. absurd cc)
 
 done : (state : State) → Quiet state state Done
-done state = quiet state Done (omega arith) tt
+done state = quiet state Done (omega arith) tt (λ e. absurd cc)
 
 shown : (state : State) (phase : Phase) (number : ℕ) (tail : List ℕ) (count : ℕ) → Quiet state state (Shown phase number tail count)
-shown state phase number tail count = quiet state (Shown phase number tail count) (omega arith) tt
+shown state phase number tail count = quiet state (Shown phase number tail count) (omega arith) tt (λ e. absurd cc)
 
 pub good : SetLaw → (me : Member) (state : State) (call : Call) → Good state (cell me state call)
 good law me Uninitialized (Initialize block config map) = good_initializes me block config map
@@ -215,10 +218,10 @@ good law me (Initialized own) (Latest handle nonce) = in_phase (Initialized own)
 good law me (Initialized own) (Finalize config number) = in_phase (Initialized own) phases.Initialized
 good law me (Initialized own) (Show handle) = shown (Initialized own) _ _ _ _
 good law me (Active own) (Initialize block config map) = choose (Active own) (is_same own block config map) (Answers (Active own) Done) _ (λ _. done (Active own)) (λ _. in_phase (Active own) phases.Active)
-good law me (Active own) (Activate view proof) = choose (Active own) (bytes_eq view (own_tail own)) (Answers (Active own) Done) _ (λ _. done (Active own)) (λ _. refused (Active own) BadView refl)
+good law me (Active own) (Activate view proof) = choose (Active own) (bytes_eq view (own_tail own)) (Answers (Active own) Done) _ (λ _. done (Active own)) (λ _. refused (Active own) BadView refl (λ e. absurd cc))
 good law me (Active own) (Append handle prev entry height) = good_appends law own handle prev entry height _ _ refl
 good law me (Active own) (Latest handle nonce) = λ sig. record { keeps = stays (Active own); one = one_stays (Active own); signed = refl; held = tt }
-good law me (Active own) (Finalize config number) = refused (Active own) BadView refl
+good law me (Active own) (Finalize config number) = refused (Active own) BadView refl (λ e. absurd cc)
 good law me (Active own) (Show handle) = shown (Active own) _ _ _ _
 good law me (Finalized own ending) (Initialize block config map) = ended own ending
 good law me (Finalized own ending) (Activate view proof) = ended own ending
@@ -226,6 +229,6 @@ good law me (Finalized own ending) (Append handle prev entry height) = ended own
 good law me (Finalized own ending) (Latest handle nonce) = ended own ending
 good law me (Finalized own ending) (Finalize config number) =
     choose (Finalized own ending) (bytes_eq (view_tail_after (own_tail own) config number) ending.next) (Answers (Finalized own ending) (Finaled ending.statement ending.sig own.map)) _
-    (λ _. quiet (Finalized own ending) (Finaled ending.statement ending.sig own.map) (omega arith) tt)
-    (λ _. refused (Finalized own ending) (OtherNext ending.next) refl)
+    (λ _. quiet (Finalized own ending) (Finaled ending.statement ending.sig own.map) (omega arith) tt (λ e. absurd cc))
+    (λ _. refused (Finalized own ending) (OtherNext ending.next) refl (λ e. absurd cc))
 good law me (Finalized own ending) (Show handle) = shown (Finalized own ending) _ _ _ _

@@ -1,9 +1,9 @@
 -- What follows from a step by the table.
-use Rattle.std.proofs.Common.{◌≡◌, ℕ, ◌≤◌, Bool, true, List, length, Option, Some, None, sym, ap, subst, ◌∙◌, arith}
+use Rattle.std.proofs.Common.{◌≡◌, ◌≢◌, ℕ, ◌≤◌, Bool, true, List, length, Option, Some, None, sym, ap, subst, ◌∙◌, arith}
 use Rattle.std.specs.Prelude.{max, Result, Ok, Err, IfOk, OnErr}
 use Rattle.statement.specs.declared.statement.Statement.{Statement}
 use Rattle.statement.specs.Statement.{statement_bytes}
-use Rattle.port.specs.Answer.{Answer, Signed, Refused, Spent}
+use Rattle.port.specs.Answer.{Answer, Signed, Refused, Spent, LogFull}
 use Rattle.port.specs.Call.{Call}
 use Rattle.port.specs.Table.{State, Cell, Answers, Signs, asked, cell, outcome}
 use Rattle.endorser_core.specs.Shown.{kept_size, sig_size}
@@ -37,6 +37,17 @@ sized key left size signs before (Signs statement state said) (Some sig) old new
     let signed : sig_size (said sig) ≡ length sig = ap sig_size (good sig).signed in
     let same : sig_size (said sig) ≡ sig_size answer = ap sig_size is in
     let long : length sig ≡ size old = h.1.length in omega arith
+
+pub not_full : (before : State) (c : Cell) (sig : Option (List ℕ)) (after : State) (answer : Answer) → Good before c → outcome before c sig ≡ (after, answer) → answer ≢ Refused LogFull
+not_full before (Answers state said) sig after answer good e =
+    let is : said ≡ answer = ap (λ (x : State × Answer). x.1) e in
+    λ full. good.not_full (is ∙ full)
+not_full before (Signs statement state said) None after answer good e =
+    let is : Refused Spent ≡ answer = ap (λ (x : State × Answer). x.1) e in
+    λ full. absurd cc
+not_full before (Signs statement state said) (Some sig) after answer good e =
+    let is : Signed statement sig ≡ answer = sym (good sig).signed ∙ ap (λ (x : State × Answer). x.1) e in
+    λ full. absurd cc
 
 -- the answer's own signature leads to the same outcome
 pub again : (before : State) (c : Cell) (sig : Option (List ℕ)) (after : State) (answer : Answer) → Good before c → outcome before c sig ≡ (after, answer) → outcome before c (sig_of (kept answer)) ≡ (after, answer)
@@ -77,6 +88,11 @@ pub step_size : {S C : Type 0} {key : S → List ℕ} {left size : S → ℕ} {s
     → SetLaw → Steps key left size signs old new call answer → sig_size answer ≤ max (size old.signer) (kept_size old.state)
 step_size {S} {C} {key} {left} {size} {signs} {old} {new} {call} {answer} law s =
     sized key left size signs old.state (cell (me key old) old.state call) s.table.sig old.signer new.signer new.state answer (good law (me key old) old.state call) s.table.signer s.table.goes
+
+pub step_not_full : {S C : Type 0} {key : S → List ℕ} {left size : S → ℕ} {signs : S → List ℕ → List ℕ → S → Type 0} {old new : Endorser S C} {call : Call} {answer : Answer}
+    → SetLaw → Steps key left size signs old new call answer → answer ≢ Refused LogFull
+step_not_full {S} {C} {key} {left} {size} {signs} {old} {new} {call} {answer} law s =
+    not_full old.state (cell (me key old) old.state call) s.table.sig new.state answer (good law (me key old) old.state call) s.table.goes
 
 pub step_fits : {S C : Type 0} {key : S → List ℕ} {left size : S → ℕ} {signs : S → List ℕ → List ℕ → S → Type 0} {old new : Endorser S C} {call : Call} {answer : Answer}
     → Steps key left size signs old new call answer → (P : S → C → Type 0) → ((bytes sig : List ℕ) (after : S) → signs old.signer bytes sig after → P after old.checker) → P old.signer old.checker → P new.signer new.checker

@@ -1,6 +1,6 @@
-ghost use Rattle.std.specs.Prelude.{◌≡◌, ◌+◌, ◌≤◌, ℕ, max, IfOk, OnErr};
+ghost use Rattle.std.specs.Prelude.{◌≡◌, ◌≢◌, ◌+◌, ◌≤◌, ℕ, max, IfOk, OnErr};
 ghost use Rattle.port.specs.Call.{call_of, Initialize, Activate, Append, Latest, Finalize, Show};
-ghost use Rattle.port.specs.Answer.{Refused, WrongPhase, answer_of};
+ghost use Rattle.port.specs.Answer.{LogFull, Refused, WrongPhase, answer_of};
 ghost use Rattle.endorser_core.specs.Endorser.{Steps, me};
 ghost use Rattle.endorser_core.specs.Line.{IsLawfulAt, line, state_after};
 ghost use Rattle.endorser_core.specs.Shown.{kept_size, sig_size};
@@ -29,6 +29,9 @@ impl<G: Scheme> Endorser<G> {
         ensures one { G.Signer.left_of self.old.signer ≤ G.Signer.left_of self.new.signer + 1 }
         ensures no_more { G.Signer.left_of self.new.signer ≤ G.Signer.left_of self.old.signer }
         ensures size { IfOk result (λ answer. sig_size (answer_of answer) ≤ max (G.Signer.size_of self.old.signer) (kept_size self.old.state)) }
+
+        // It never says that stamps ran out, which only the holder of a pass can say.
+        ensures never_full { IfOk result (λ answer. answer_of answer ≢ Refused LogFull) }
 
         // A checker that fits the signer still does, and then the line of this step is lawful after those before.
         ensures fits { G.fits self.old.signer self.old.checker → G.fits self.new.signer self.new.checker }

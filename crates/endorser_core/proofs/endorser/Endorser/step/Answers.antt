@@ -1,11 +1,16 @@
 use Rattle.endorser_core.proofs.Cells.{SetLaw}
-use Rattle.endorser_core.proofs.Following.{step_size, step_fits, step_lawful, step_replayed, weaker, either_way}
+use Rattle.endorser_core.proofs.Following.{step_size, step_not_full, step_fits, step_lawful, step_replayed, weaker, either_way}
 use Rattle.endorser_core.proofs.endorser.Endorser.step.Goals as goal
 
 pub returns-clause-size : goal.returns-clause-size
 returns-clause-size g c =
     let law : SetLaw = (c.one_row_changes.ensures.own, c.one_row_changes.ensures.others) in
     weaker c.respond.result _ _ c.respond.ensures.table (λ answer s. step_size law s)
+
+pub returns-clause-never_full : goal.returns-clause-never_full
+returns-clause-never_full g c =
+    let law : SetLaw = (c.one_row_changes.ensures.own, c.one_row_changes.ensures.others) in
+    weaker c.respond.result _ _ c.respond.ensures.table (λ answer s. step_not_full law s)
 
 pub returns-clause-fits : goal.returns-clause-fits
 returns-clause-fits g c fits =
