@@ -1,5 +1,5 @@
 -- What a reader missed or found, by what its steps did.
-use Rattle.std.proofs.Common.{◌≡◌, ℕ, ◌+◌, ◌^◌, ◌<◌, ◌≤◌, ◌⊎◌, inl, inr, List, [], ◌∷◌, ◌++◌, length, get_or, map, Option, Some, None, Result, Ok, Err, refl, sym, ap, subst, ◌∙◌, append_assoc, arith}
+use Rattle.std.proofs.Common.{◌≡◌, ℕ, zero, suc, ◌+◌, ◌^◌, ◌<◌, ◌≤◌, ◌⊎◌, inl, inr, List, [], ◌∷◌, ◌++◌, length, get_or, take, map, Option, Some, None, Result, Ok, Err, refl, sym, ap, subst, ◌∙◌, append_assoc, arith}
 use Rattle.std.specs.Prelude.{IsTrue, IsFalse, MatchResult}
 use Rattle.std.specs.List.{flat_map, AllByRecursion}
 use Rattle.std.specs.Int.{w32, to_be_bytes}
@@ -127,6 +127,15 @@ module _ (before : Option ℕ) (old fields : List ℕ) (id : ℕ) (fits : AreByt
 all_push : {A : Type 0} (P : A → Type 0) (xs : List A) (x : A) → AllByRecursion P xs → P x → AllByRecursion P (xs ++ x ∷ [])
 all_push P [] x all one = (one, tt)
 all_push P (y ∷ xs) x all one = (all.0, all_push P xs x all.1 one)
+
+-- one element more, as at a step of a loop
+pub all_more : {A : Type 0} (P : A → Type 0) (xs : List A) (i : ℕ) (d : A) → i < length xs → AllByRecursion P (take i xs) → P (get_or xs i d) → AllByRecursion P (take (i + 1) xs)
+all_more P [] i d below all one = absurd (omega arith)
+all_more P (x ∷ xs) zero d below all one = (one, tt)
+all_more P (x ∷ xs) (suc i) d below all one =
+    let rest : AllByRecursion P (take (suc (i + 1)) (x ∷ xs)) = (all.0, all_more P xs i d (omega arith) all.1 one) in
+    let count : suc (i + 1) ≡ suc i + 1 = omega arith in
+    subst (λ (n : ℕ). AllByRecursion P (take n (x ∷ xs))) count rest
 
 rises_push : (start : Option ℕ) (finals : List FinalMap) (ended : FinalMap) → RisesFrom start (map id_of finals) → IsTrue (is_above (last_id start (map id_of finals)) ended.id) → RisesFrom start (map id_of (finals ++ ended ∷ []))
 rises_push start [] ended up above = (above, tt)

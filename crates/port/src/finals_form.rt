@@ -1,8 +1,9 @@
 ghost use Rattle.std.specs.Prelude.{◌≡◌, ◌⊎◌, ◌≤◌, ◌++◌, List, length, map, Ok, Err, IfOk, IfErr, OnOk};
 ghost use Rattle.nim_base.specs.declared.form_fault.FormFault.{FormFault};
+ghost use Rattle.statement.specs.Mark.{IsSignature};
 ghost use Rattle.statement.specs.Reading.{MayGive};
 ghost use Rattle.port.specs.View.{FinalMap};
-ghost use Rattle.port.specs.FinalsForm.{AreFinals, IsFinals, final_bytes, finals_bytes, FinalsShow};
+ghost use Rattle.port.specs.FinalsForm.{AreFinals, IsFinal, IsFinals, final_bytes, finals_bytes, FinalsShow};
 
 use crate::final_map::FinalMap;
 use crate::finals_reading::read_whole;
@@ -16,7 +17,9 @@ pub(crate) const KIND: u8 = 0x31;
 /// its id in 4, the length of its signature in 2, the signature, the length of its map in 4 and the map.
 pub fn write_finals(alloc: Global, finals: &[FinalMap]) -> Result<Text, NoMemory>
     requires { AreFinals finals.now }
-    ensures { IfOk result (λ text. text.bytes ≡ finals_bytes finals.now) }
+    ensures bytes { IfOk result (λ text. text.bytes ≡ finals_bytes finals.now) }
+    // They are read again as these finals.
+    ensures finals { OnOk result (IsFinals finals.now) }
 {
     let mut text = Text::of(alloc, &[KIND, finals.len() as u8])?;
     for ended in finals {
@@ -48,14 +51,16 @@ pub fn read_finals(alloc: Global, bytes: &[u8]) -> Result<Vec<FinalMap>, FormFau
 }
 
 fn put_final(alloc: Global, text: &mut Text, ended: &FinalMap) -> Result<(), NoMemory>
-    requires { length ended.now.sig ≤ 16384 }
-    ensures { OnOk result (text.new.bytes ≡ text.old.bytes ++ final_bytes ended.now) }
+    requires { IsSignature ended.now.sig }
+    ensures bytes { OnOk result (text.new.bytes ≡ text.old.bytes ++ final_bytes ended.now) }
+    ensures ended { OnOk result (IsFinal ended.now) }
 {
-    let sig = ended.sig.bytes();
-    let map = ended.map.write(alloc)?;
-    // The rows are told, so that the size of the map is known.
-    let _ = ended.map.rows();
-    text.push(&ended.id.to_be_bytes())?;
+    let FinalMap { id, map, sig } = ended;
+    let sig = sig.bytes();
+    // The rows are opened, so that what they are is known.
+    let _ = map.rows();
+    let map = map.write(alloc)?;
+    text.push(&id.to_be_bytes())?;
     text.push(&(sig.len() as u16).to_be_bytes())?;
     text.push(sig)?;
     text.push(&(map.bytes().len() as u32).to_be_bytes())?;

@@ -1,9 +1,9 @@
-ghost use Rattle.std.specs.Prelude.{◌≡◌, ◌↔◌, ◌⊎◌, length, Ok, Err, IsTrue, IfOk, IfErr};
+ghost use Rattle.std.specs.Prelude.{◌≡◌, ◌↔◌, ◌⊎◌, length, Ok, Err, IsTrue, IfOk, IfErr, OnOk};
 ghost use Rattle.nim_base.specs.declared.form_fault.FormFault.{FormFault};
 ghost use Rattle.chain_block.specs.Entry.{IsWithinLimits, bare, entry_bytes, entry_digest, handle_of, height_of, nonce_of};
 ghost use Rattle.statement.specs.FormFault.{Gives};
 ghost use Rattle.port.specs.Row.{Content};
-ghost use Rattle.port.specs.RowForm.{IsRow, row_bytes, RowShows};
+ghost use Rattle.port.specs.RowForm.{IsStored, IsRow, row_bytes, RowShows};
 
 use crate::row_reading::read_whole;
 use chain_block::{Entry, MetaBlock, entries_have_own_bytes, metablocks_have_own_bytes};
@@ -70,13 +70,19 @@ impl Row {
     /// The bytes of the row: the kind 50 in hexadecimal, the length of the entry in 4 bytes, the entry, and
     /// the metablock in 73.
     pub fn write(&self, alloc: Global) -> Result<Text, NoMemory>
-        ensures { IfOk result (λ text. text.bytes ≡ row_bytes self.now) }
+        ensures bytes { IfOk result (λ text. text.bytes ≡ row_bytes self.now) }
+        // It is read again as this row.
+        ensures row { OnOk result (IsRow self.now) }
     {
+        // The digests are opened, so that their lengths are known.
+        let block = &self.metablock;
+        let _ = &block.prev.0;
+        let _ = &block.entry.0;
         let entry = self.entry.write(alloc)?;
         let mut text = Text::of(alloc, &[KIND])?;
         text.push(&size_of(&self.entry).to_be_bytes())?;
         text.push(entry.bytes())?;
-        text.push(&self.metablock.bytes())?;
+        text.push(&block.bytes())?;
         Ok(text)
     }
 
@@ -150,7 +156,8 @@ fn is_same(entry: &Entry, other: &Entry) -> bool
 // How many bytes the entry has.
 fn size_of(entry: &Entry) -> u32
     requires { IsWithinLimits entry.now }
-    ensures { result ≡ length (entry_bytes entry.now) }
+    ensures size { result ≡ length (entry_bytes entry.now) }
+    ensures stored { IsStored (bare entry.now) }
 {
     match entry {
         Entry::Genesis { nonce, payload } => {

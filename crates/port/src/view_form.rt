@@ -1,4 +1,4 @@
-ghost use Rattle.std.specs.Prelude.{◌≡◌, ◌⊎◌, List, Ok, Err, IfOk, IfErr};
+ghost use Rattle.std.specs.Prelude.{◌≡◌, ◌⊎◌, List, Ok, Err, IfOk, IfErr, OnOk};
 ghost use Rattle.nim_base.specs.declared.form_fault.FormFault.{FormFault};
 ghost use Rattle.statement.specs.declared.member.Member.{Member};
 ghost use Rattle.statement.specs.declared.view_block.ViewBlock.{ViewBlock};
@@ -21,13 +21,23 @@ const KIND: u8 = 0x51;
 
 /// The bytes of a view: the kind 51 in hexadecimal, the view block in 73 bytes, and the config.
 pub fn write_view(alloc: Global, block: &ViewBlock, config: &Config) -> Result<Text, NoMemory>
-    ensures { IfOk result (λ text. text.bytes ≡ view_bytes (block.now, config.now)) }
+    ensures bytes { IfOk result (λ text. text.bytes ≡ view_bytes (block.now, config.now)) }
+    // It is read again as this view.
+    ensures view { OnOk result (IsView (block.now, config.now)) }
 {
-    let block = block.write(alloc)?;
-    let config = config.write(alloc)?;
+    // The block and the config are opened, so that what they are is known.
+    let ViewBlock {
+        prev,
+        config: digest,
+        number,
+    } = block;
+    let _ = &prev.0;
+    let _ = &digest.0;
+    let _number = *number;
+    let _ = config.members();
     let mut text = Text::of(alloc, &[KIND])?;
-    text.push(block.bytes())?;
-    text.push(config.bytes())?;
+    text.push(block.write(alloc)?.bytes())?;
+    text.push(config.write(alloc)?.bytes())?;
     Ok(text)
 }
 
