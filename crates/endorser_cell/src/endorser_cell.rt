@@ -1,5 +1,4 @@
-ghost use Rattle.std.specs.Prelude.{◌≡◌, ℕ, ◌+◌, ◌<◌, ◌≤◌, ◌↔◌, ◌++◌, ◌∷◌, [], Ok, IfOk, OnErr};
-ghost use Rattle.std.specs.List.{All};
+ghost use Rattle.std.specs.Prelude.{◌≡◌, ◌+◌, ◌<◌, ◌≤◌, ◌↔◌, [], Ok, IfOk, OnErr};
 ghost use Rattle.std.specs.List.Sorted.{IsStrictlyIncreasing};
 ghost use Rattle.port.specs.Call.{call_of};
 ghost use Rattle.port.specs.Answer.{answer_of};
@@ -8,8 +7,7 @@ ghost use Rattle.port.specs.declared.endorser_answer.EndorserAnswer.TheVariants.
 ghost use Rattle.port.specs.declared.endorser_refusal.EndorserRefusal.TheVariants.{LogFull};
 ghost use Rattle.stamp_clock.specs.Stamps.{stamps};
 ghost use Rattle.endorser_core.specs.Endorser.{Steps};
-ghost use Rattle.endorser_core.specs.Line.{Line, line};
-ghost use Rattle.endorser_cell.specs.EndorserCell.{EndorserCell, IsLawfulOf, LeadsTo, stamps_of};
+ghost use Rattle.endorser_cell.specs.EndorserCell.{AddsLine, EndorserCell, IsLawfulOf, LeadsTo, stamps_of};
 
 use crate::line_answer::line_answer;
 use endorser_core::{CellLine, Endorser, lines_go_on};
@@ -82,11 +80,11 @@ impl<G: Scheme, K: ClockName> EndorserCell<G, K> {
         clock: &Clock<K>,
         call: &EndorserCall,
     ) -> Result<EndorserAnswer, NoMemory>
-        // The endorser went by the table, and one line came to the end, with a stamp above all before.
+        // With a stamp left, the endorser goes by the table, and one line and one stamp more stand there.
         ensures table { IfOk result (λ answer. 0 < self.old.left
             → Steps G.Signer.key_of G.Signer.left_of G.Signer.size_of G.Signer.signs self.old.endorser self.new.endorser (call_of call.now) (answer_of answer)) }
         ensures noted { IfOk result (λ answer. 0 < self.old.left
-            → (stamp : ℕ) × (self.new.lines ≡ self.old.lines ++ line stamp (call_of call.now) (answer_of answer) ∷ []) × All (λ earlier. earlier < stamp) (stamps_of self.old.lines)) }
+            → AddsLine self.old.lines self.new.lines (call_of call.now) (answer_of answer)) }
         ensures left { IfOk result (λ _. 0 < self.old.left → self.new.left + 1 ≡ self.old.left) }
 
         // Without a stamp, and at want of memory, nothing changes.
