@@ -17,8 +17,8 @@ use Rattle.view_ledger.specs.declared.view_fault.ViewFault.TheVariants.{BadLink,
 use Rattle.view_ledger.specs.Views.{ViewChain, newest_config, next_block}
 use Rattle.view_ledger.specs.Receipts.{Accepts, IsSigned, is_signed}
 use Rattle.view_ledger.specs.Extension.{AreGenuine, final_id, final_bytes, Follows, extended, is_genuine, first_not_genuine, is_block, bad_link, first_bad_final, no_quorum, finals_fault, extend_fault, extend_outcome}
-use Rattle.view_ledger.proofs.Firsts.{or_none, none_found, all_map}
-use Rattle.view_ledger.proofs.Signers.{signed, are_quorum}
+use Rattle.view_ledger.specs.Firsts.{or_none, none_found, all_map}
+use Rattle.view_ledger.specs.Signers.{signed, are_quorum}
 
 not_false : (b : Bool) → not b ≡ false → b ≡ true
 not_false true e = refl

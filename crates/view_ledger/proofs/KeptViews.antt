@@ -16,7 +16,7 @@ use Rattle.view_ledger.specs.Views.{newest_tail, tail_at, tail_of_view, config_a
 use Rattle.view_ledger.specs.Receipts.{Accepts}
 use Rattle.view_ledger.specs.Extension.{AreGenuine, final_bytes, finals_fault}
 use Rattle.view_ledger.specs.Kept.{config_of, HaveTails, AreViews}
-use Rattle.view_ledger.proofs.Tails.{newest_below-step}
+use Rattle.view_ledger.specs.Tails.{newest_below-step}
 
 -- the view before the last so many, as a search from the newest comes to it
 module _ (views : List View) (have : HaveTails views) (number : ℕ) (other : View) (some : 0 < number) (within : number ≤ length views) (tail : List ℕ) where

@@ -1,6 +1,6 @@
 use Rattle.std.proofs.Common.{[]}
 use Rattle.view_ledger.proofs.KeptViews.{views_none}
-use Rattle.view_ledger.proofs.Tails.{tail_by}
+use Rattle.view_ledger.specs.Tails.{tail_by}
 use Rattle.view_ledger.proofs.kept.first_view.Goals as goal
 
 pub block_after-requires : goal.block_after-requires

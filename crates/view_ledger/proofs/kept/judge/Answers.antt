@@ -5,7 +5,7 @@ use Rattle.view_ledger.specs.Views.{config_at, number_of}
 use Rattle.view_ledger.specs.Receipts.{marks_fault}
 use Rattle.view_ledger.specs.Kept.{config_of}
 use Rattle.view_ledger.proofs.KeptViews.{config_is}
-use Rattle.view_ledger.proofs.ReceiptLaws.{outcome_none, outcome_fault, outcome_ok}
+use Rattle.view_ledger.specs.ReceiptLaws.{outcome_none, outcome_fault, outcome_ok}
 use Rattle.view_ledger.proofs.kept.judge.Goals as goal
 
 pub returns-in_default : goal.returns-in_default

@@ -4,7 +4,7 @@ use Rattle.std.proofs.lemmas.List.{nil_from_length}
 use Rattle.view_ledger.specs.declared.view.View.{View}
 use Rattle.view_ledger.specs.Views.{newest_tail}
 use Rattle.view_ledger.specs.Kept.{config_of}
-use Rattle.view_ledger.proofs.Tails.{newest_tail-none}
+use Rattle.view_ledger.specs.Tails.{newest_tail-none}
 use Rattle.view_ledger.proofs.KeptViews.{newest_tail_is}
 use Rattle.view_ledger.proofs.kept.newest_tail.Goals as goal
 

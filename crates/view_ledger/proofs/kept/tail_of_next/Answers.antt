@@ -10,7 +10,7 @@ use Rattle.view_ledger.specs.Extension.{is_block, finals_fault, first_not_genuin
 use Rattle.statement.specs.declared.statement.Statement.TheVariants.{Final}
 use Rattle.statement.specs.Statement.{statement_bytes}
 use Rattle.view_ledger.specs.Kept.{config_of, kept_chain}
-use Rattle.view_ledger.proofs.Tails.{tail_by}
+use Rattle.view_ledger.specs.Tails.{tail_by}
 use Rattle.view_ledger.proofs.KeptViews.{fault_is}
 use Rattle.view_ledger.proofs.Extending.{not_linked, not_ended, rests}
 use Rattle.view_ledger.proofs.kept.tail_of_next.Goals as goal

@@ -1,6 +1,6 @@
 use Rattle.std.proofs.Common.{◌≡◌, sym, ◌∙◌, rules}
 use Rattle.view_ledger.specs.Receipts.{receipt_outcome}
-use Rattle.view_ledger.proofs.ReceiptLaws.{accepted, accepts_it, outcome_none, unknown}
+use Rattle.view_ledger.specs.ReceiptLaws.{accepted, accepts_it, outcome_none, unknown}
 use Rattle.view_ledger.proofs.view_chain.ViewChain.check_receipt.Goals as goal
 
 pub returns-clause-accepted : goal.returns-clause-accepted

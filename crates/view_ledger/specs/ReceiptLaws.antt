@@ -14,9 +14,9 @@ use Rattle.view_ledger.specs.declared.receipt_fault.ReceiptFault.{ReceiptFault}
 use Rattle.view_ledger.specs.declared.receipt_fault.ReceiptFault.TheVariants.{UnknownView, Order, NotMember, BadMark, Few}
 use Rattle.view_ledger.specs.Views.{tail_at, config_at, number_of}
 use Rattle.view_ledger.specs.Receipts.{Accepts, IsSigned, IsAccepted, IsAcceptedIn, is_signed, first_stranger, first_bad_mark, few, marks_fault, receipt_outcome}
-use Rattle.view_ledger.proofs.Tails.{newest_below-found}
-use Rattle.view_ledger.proofs.Firsts.{or_none, none_found, found_none, all_map, rises, no_fall}
-use Rattle.view_ledger.proofs.Signers.{signed, is_signed-true, are_quorum}
+use Rattle.view_ledger.specs.Tails.{newest_below-found}
+use Rattle.view_ledger.specs.Firsts.{or_none, none_found, found_none, all_map, rises, no_fall}
+use Rattle.view_ledger.specs.Signers.{signed, is_signed-true, are_quorum}
 
 not_false : (b : Bool) → not b ≡ false → b ≡ true
 not_false true e = refl
