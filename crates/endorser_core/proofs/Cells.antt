@@ -41,10 +41,10 @@ OneMore (Initialized own) after = Unit {0}
 OneMore (Active own) after = (handle : List ℕ) → count_of after handle ≤ count_of (Active own) handle + 1
 OneMore (Finalized own ending) after = Unit {0}
 
--- what was signed as held is held
+-- what was signed as held or with a nonce is held
 abbrev pub IsHeldAt : Statement → State → Type 0
 IsHeldAt (Held view handle tail count) after = (row_of after handle ≡ (tail, count)) × (0 < count)
-IsHeldAt (statements.Latest view handle tail count nonce) after = Unit {0}
+IsHeldAt (statements.Latest view handle tail count nonce) after = row_of after handle ≡ (tail, count)
 IsHeldAt (Final view next map) after = Unit {0}
 
 abbrev pub IsUnsigned : Answer → Type 0
@@ -220,7 +220,7 @@ good law me (Initialized own) (Show handle) = shown (Initialized own) _ _ _ _
 good law me (Active own) (Initialize block config map) = choose (Active own) (is_same own block config map) (Answers (Active own) Done) _ (λ _. done (Active own)) (λ _. in_phase (Active own) phases.Active)
 good law me (Active own) (Activate view proof) = choose (Active own) (bytes_eq view (own_tail own)) (Answers (Active own) Done) _ (λ _. done (Active own)) (λ _. refused (Active own) BadView refl (λ e. absurd cc))
 good law me (Active own) (Append handle prev entry height) = good_appends law own handle prev entry height _ _ refl
-good law me (Active own) (Latest handle nonce) = λ sig. record { keeps = stays (Active own); one = one_stays (Active own); signed = refl; held = tt }
+good law me (Active own) (Latest handle nonce) = λ sig. record { keeps = stays (Active own); one = one_stays (Active own); signed = refl; held = refl }
 good law me (Active own) (Finalize config number) = refused (Active own) BadView refl (λ e. absurd cc)
 good law me (Active own) (Show handle) = shown (Active own) _ _ _ _
 good law me (Finalized own ending) (Initialize block config map) = ended own ending

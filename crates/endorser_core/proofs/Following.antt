@@ -115,3 +115,7 @@ pub step_replayed : {S C : Type 0} {key : S → List ℕ} {left size : S → ℕ
     → SetLaw → Steps key left size signs old new call answer → (stamp : ℕ) → state_after (me key old) old.state (line stamp call answer) ≡ new.state
 step_replayed {S} {C} {key} {left} {size} {signs} {old} {new} {call} {answer} law s stamp =
     ap (λ (x : State × Answer). x.0) (again old.state (cell (me key old) old.state call) s.table.sig new.state answer (good law (me key old) old.state call) s.table.goes)
+
+pub on_err : {T E : Type 0} (r : Result T E) (P Q : Type 0) → OnErr r P → (P → Q) → OnErr r Q
+on_err (Ok x) P Q h f = tt
+on_err (Err e) P Q h f = f h

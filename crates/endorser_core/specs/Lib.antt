@@ -1,6 +1,7 @@
 pub mod Held
 pub mod Move
 pub mod Inactive
+pub mod Lacks
 pub mod Shown
 pub mod Endorser
 pub mod LineAnswer

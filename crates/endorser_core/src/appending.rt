@@ -6,6 +6,7 @@ ghost use Rattle.port.specs.Answer.{answer_of};
 ghost use Rattle.port.specs.Table.{appends, cell, held, reads};
 ghost use Rattle.endorser_core.specs.Endorser.{Goes};
 ghost use Rattle.endorser_core.specs.Held.{state_at, view_of};
+ghost use Rattle.endorser_core.specs.Lacks.{MayLack};
 ghost use Rattle.endorser_core.specs.Move.{Fits, cell_of};
 
 use crate::membership::Membership;
@@ -40,6 +41,7 @@ impl Membership {
         ensures stage { self.new.stage ≡ self.old.stage }
         ensures same_signer { OnErr result (signer.new ≡ signer.old) }
         ensures same_view { OnErr result (view_of self.new ≡ view_of self.old) }
+        ensures lacks { OnErr result ((me : Member) → MayLack (S.left_of signer.old) (cell me (state_at self.old.stage (view_of self.old)) (Append handle.now prev.now entry.now height))) }
     {
         if let Some(denial) = self.inactive(alloc)? {
             return Ok(EndorserAnswer::Refused(denial));
@@ -61,6 +63,7 @@ impl Membership {
         ensures stage { self.new.stage ≡ self.old.stage }
         ensures same_signer { OnErr result (signer.new ≡ signer.old) }
         ensures same_view { OnErr result (view_of self.new ≡ view_of self.old) }
+        ensures lacks { OnErr result ((me : Member) → MayLack (S.left_of signer.old) (cell me (state_at self.old.stage (view_of self.old)) (Latest handle.now nonce.now))) }
     {
         if let Some(denial) = self.inactive(alloc)? {
             return Ok(EndorserAnswer::Refused(denial));

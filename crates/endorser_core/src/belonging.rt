@@ -1,10 +1,11 @@
-ghost use Rattle.std.specs.Prelude.{◌≡◌, IfOk, MatchOption, MatchResult};
+ghost use Rattle.std.specs.Prelude.{◌≡◌, ℕ, IfOk, OnErr, MatchOption, MatchResult};
 ghost use Rattle.statement.specs.declared.member.Member.{Member};
 ghost use Rattle.port.specs.Call.{Initialize, Finalize};
 ghost use Rattle.port.specs.Answer.{Done, HasEnded, answer_of, denial_of};
 ghost use Rattle.port.specs.Table.{Answers, Uninitialized, Initialized, Active, Finalized, activates, cell, ends_again, initializes, refuses, is_same};
 ghost use Rattle.endorser_core.specs.Held.{ending_of, state_at, view_of};
 ghost use Rattle.endorser_core.specs.Inactive.{IsInactive};
+ghost use Rattle.endorser_core.specs.Lacks.{HasEndedAt, MayLack};
 
 use crate::membership::{Ending, Membership, Stage};
 use nim_base::{Digest, NoMemory, Text};
@@ -22,9 +23,10 @@ impl Membership {
         config: &Config,
         map: &TailMap,
     ) -> Result<Result<Membership, EndorserRefusal>, NoMemory>
-        ensures { IfOk result (λ begun. MatchResult begun
+        ensures begun { IfOk result (λ begun. MatchResult begun
             (λ held. initializes me.now block.now config.now map.now.rows ≡ Answers (Initialized (view_of held)) Done × (held.stage ≡ Stage.Initialized))
             (λ denial. initializes me.now block.now config.now map.now.rows ≡ refuses Uninitialized (denial_of denial))) }
+        ensures lacks { OnErr result (MayLack 0 (initializes me.now block.now config.now map.now.rows)) }
     {
         // Until views follow each other, only view 0 begins.
         if block.number != 0 || config.digest() != block.config {
@@ -88,8 +90,9 @@ impl Membership {
         config: &Config,
         map: &TailMap,
     ) -> Result<EndorserAnswer, NoMemory>
-        ensures { IfOk result (λ answer. (me : Member) → let state = state_at self.now.stage (view_of self.now) in
+        ensures answer { IfOk result (λ answer. (me : Member) → let state = state_at self.now.stage (view_of self.now) in
             cell me state (Initialize block.now config.now map.now.rows) ≡ Answers state (answer_of answer)) }
+        ensures lacks { OnErr result (HasEndedAt self.now.stage) }
     {
         if let Stage::Finalized(ending) = &self.stage {
             return Ok(EndorserAnswer::Refused(ending.refusal(alloc)?));
@@ -104,8 +107,9 @@ impl Membership {
 
     // Why a member takes no Append and no Latest, or none where it is active.
     pub(crate) fn inactive(&self, alloc: Global) -> Result<Option<EndorserRefusal>, NoMemory>
-        ensures { IfOk result (λ found. MatchOption found (self.now.stage ≡ Stage.Active)
+        ensures answer { IfOk result (λ found. MatchOption found (self.now.stage ≡ Stage.Active)
             (λ denial. IsInactive (state_at self.now.stage (view_of self.now)) (denial_of denial))) }
+        ensures lacks { OnErr result (HasEndedAt self.now.stage) }
     {
         match &self.stage {
             Stage::Initialized => Ok(Some(EndorserRefusal::WrongPhase {
@@ -123,8 +127,9 @@ impl Membership {
         config: &Digest,
         number: u64,
     ) -> Result<EndorserAnswer, NoMemory>
-        ensures { IfOk result (λ answer. (me : Member) → let state = state_at self.now.stage (view_of self.now) in
+        ensures answer { IfOk result (λ answer. (me : Member) → let state = state_at self.now.stage (view_of self.now) in
             cell me state (Finalize config.now number) ≡ Answers state (answer_of answer)) }
+        ensures lacks { OnErr result ((me : Member) (left : ℕ) → MayLack left (cell me (state_at self.now.stage (view_of self.now)) (Finalize config.now number))) }
     {
         match &self.stage {
             Stage::Initialized => Ok(EndorserAnswer::Refused(EndorserRefusal::WrongPhase {
@@ -143,8 +148,9 @@ impl Membership {
         config: &Digest,
         number: u64,
     ) -> Result<EndorserAnswer, NoMemory>
-        ensures { IfOk result (λ answer. ends_again (view_of self.now) (ending_of ending.now) config.now number
+        ensures answer { IfOk result (λ answer. ends_again (view_of self.now) (ending_of ending.now) config.now number
             ≡ Answers (Finalized (view_of self.now) (ending_of ending.now)) (answer_of answer)) }
+        ensures lacks { OnErr result ((left : ℕ) → MayLack left (ends_again (view_of self.now) (ending_of ending.now) config.now number)) }
     {
         let next = ViewBlock {
             prev: self.tail,

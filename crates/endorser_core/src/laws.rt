@@ -1,6 +1,6 @@
 ghost use Rattle.std.specs.Prelude.{◌≡◌, ◌+◌, ◌<◌, ◌≤◌, ◌++◌, ◌∷◌, [], Bool, List, ℕ, Option};
 ghost use Rattle.statement.specs.declared.member.Member.{Member};
-ghost use Rattle.statement.specs.declared.statement.Statement.TheVariants.{Held};
+ghost use Rattle.statement.specs.declared.statement.Statement.TheVariants.{Held, Latest};
 ghost use Rattle.port.specs.Call.{Call};
 ghost use Rattle.port.specs.Answer.{Signed};
 ghost use Rattle.port.specs.Table.{State, View, Active, cell, outcome};
@@ -28,10 +28,13 @@ pub fn counts_never_fall()
     one_row_changes();
 }
 
-/// What an endorser signs as held is the ledger's tail and count after the step.
+/// What an endorser signs as held, or with a nonce, is the ledger's tail and count after the step.
 pub fn what_is_signed_is_held()
-    ensures { (me : Member) (state : State) (call : Call) (sig : Option (List ℕ)) (view handle tail : List ℕ) (count : ℕ) (signature : List ℕ)
+    ensures held { (me : Member) (state : State) (call : Call) (sig : Option (List ℕ)) (view handle tail : List ℕ) (count : ℕ) (signature : List ℕ)
         → (outcome state (cell me state call) sig).1 ≡ Signed (Held view handle tail count) signature
+        → row_of (outcome state (cell me state call) sig).0 handle ≡ (tail, count) }
+    ensures latest { (me : Member) (state : State) (call : Call) (sig : Option (List ℕ)) (view handle tail nonce : List ℕ) (count : ℕ) (signature : List ℕ)
+        → (outcome state (cell me state call) sig).1 ≡ Signed (Latest view handle tail count nonce) signature
         → row_of (outcome state (cell me state call) sig).0 handle ≡ (tail, count) }
 {
     one_row_changes();

@@ -3,6 +3,7 @@ ghost use Rattle.port.specs.Answer.{answer_of};
 ghost use Rattle.port.specs.Table.{Active};
 ghost use Rattle.endorser_core.specs.Endorser.{Goes};
 ghost use Rattle.endorser_core.specs.Held.{state_at, view_of};
+ghost use Rattle.endorser_core.specs.Lacks.{MayLack};
 ghost use Rattle.endorser_core.specs.Move.{Fits, HasPlace, cell_of, rows_after};
 
 use crate::membership::{Membership, Stage};
@@ -37,6 +38,7 @@ impl Membership {
         ensures stage { self.new.stage ≡ self.old.stage }
         ensures same_signer { OnErr result (signer.new ≡ signer.old) }
         ensures same_view { OnErr result (view_of self.new ≡ view_of self.old) }
+        ensures lacks { OnErr result (MayLack (S.left_of signer.old) (cell_of (view_of self.old) step)) }
     {
         match step {
             Move::Refuses(denial) => Ok(EndorserAnswer::Refused(denial)),
@@ -59,11 +61,14 @@ impl Membership {
         ensures stage { self.new.stage ≡ self.old.stage }
         ensures same_signer { OnErr result (signer.new ≡ signer.old) }
         ensures same_view { OnErr result (view_of self.new ≡ view_of self.old) }
+        ensures lacks { OnErr result (0 < S.left_of signer.old) }
     {
         if signer.left() == 0 {
             return Ok(EndorserAnswer::Refused(EndorserRefusal::Spent));
         }
-        self.map.reserve()?;
+        if row.is_some() {
+            self.map.reserve()?;
+        }
         let Ok(sig) = signer.sign(alloc, statement.bytes().as_slice()) else {
             return Err(NoMemory);
         };
@@ -75,7 +80,7 @@ impl Membership {
 // Sets the row, if there is one, where a place and the memory for it are there.
 fn set(map: &mut TailMap, row: Option<TailRow>)
     requires place { IfSome row (HasPlace map.old.rows) }
-    requires room { 0 < map.old.room }
+    requires room { IfSome row (λ _. 0 < map.old.room) }
     ensures { map.new.rows ≡ rows_after map.old.rows row }
 {
     if let Some(row) = row {

@@ -1,7 +1,9 @@
 ghost use Rattle.std.specs.Prelude.{◌≡◌, ◌≢◌, ◌+◌, ◌≤◌, ℕ, max, IfOk, OnErr};
 ghost use Rattle.port.specs.Call.{call_of, Initialize, Activate, Append, Latest, Finalize, Show};
 ghost use Rattle.port.specs.Answer.{LogFull, Refused, WrongPhase, answer_of};
+ghost use Rattle.port.specs.Table.{cell};
 ghost use Rattle.endorser_core.specs.Endorser.{Steps, me};
+ghost use Rattle.endorser_core.specs.Lacks.{MayLack};
 ghost use Rattle.endorser_core.specs.Line.{IsLawfulAt, line, state_after};
 ghost use Rattle.endorser_core.specs.Shown.{kept_size, sig_size};
 
@@ -20,6 +22,7 @@ impl<G: Scheme> Endorser<G> {
     pub fn step(&mut self, alloc: Global, call: &EndorserCall) -> Result<EndorserAnswer, NoMemory>
         ensures table { IfOk result (λ answer. Steps G.Signer.key_of G.Signer.left_of G.Signer.size_of G.Signer.signs self.old self.new (call_of call.now) (answer_of answer)) }
         ensures no_memory { OnErr result (self.new ≡ self.old) }
+        ensures lacks { OnErr result (MayLack (G.Signer.left_of self.old.signer) (cell (me G.Signer.key_of self.old) self.old.state (call_of call.now))) }
 
         // What stays after every answer, and how long the signature in one is.
         ensures same_id { self.new.id ≡ self.old.id }
@@ -47,6 +50,7 @@ impl<G: Scheme> Endorser<G> {
     fn respond(&mut self, alloc: Global, call: &EndorserCall) -> Result<EndorserAnswer, NoMemory>
         ensures table { IfOk result (λ answer. Steps G.Signer.key_of G.Signer.left_of G.Signer.size_of G.Signer.signs self.old self.new (call_of call.now) (answer_of answer)) }
         ensures no_memory { OnErr result (self.new ≡ self.old) }
+        ensures lacks { OnErr result (MayLack (G.Signer.left_of self.old.signer) (cell (me G.Signer.key_of self.old) self.old.state (call_of call.now))) }
     {
         match call {
             EndorserCall::Initialize { block, config, map } => {
@@ -74,6 +78,7 @@ impl<G: Scheme> Endorser<G> {
     ) -> Result<EndorserAnswer, NoMemory>
         ensures table { IfOk result (λ answer. Steps G.Signer.key_of G.Signer.left_of G.Signer.size_of G.Signer.signs self.old self.new (Initialize block.now config.now map.now.rows) (answer_of answer)) }
         ensures no_memory { OnErr result (self.new ≡ self.old) }
+        ensures lacks { OnErr result (MayLack (G.Signer.left_of self.old.signer) (cell (me G.Signer.key_of self.old) self.old.state (Initialize block.now config.now map.now.rows))) }
     {
         if let Some(held) = &self.membership {
             return held.begin_again(alloc, block, config, map);
@@ -99,6 +104,7 @@ impl<G: Scheme> Endorser<G> {
     ) -> Result<EndorserAnswer, NoMemory>
         ensures table { IfOk result (λ answer. Steps G.Signer.key_of G.Signer.left_of G.Signer.size_of G.Signer.signs self.old self.new (Activate view.now proof.now) (answer_of answer)) }
         ensures no_memory { OnErr result (self.new ≡ self.old) }
+        ensures lacks { OnErr result (MayLack (G.Signer.left_of self.old.signer) (cell (me G.Signer.key_of self.old) self.old.state (Activate view.now proof.now))) }
     {
         let Some(held) = &mut self.membership else {
             return Ok(wrong_phase(Phase::Uninitialized));
@@ -127,6 +133,7 @@ impl<G: Scheme> Endorser<G> {
     ) -> Result<EndorserAnswer, NoMemory>
         ensures table { IfOk result (λ answer. Steps G.Signer.key_of G.Signer.left_of G.Signer.size_of G.Signer.signs self.old self.new (Append handle.now prev.now entry.now height) (answer_of answer)) }
         ensures no_memory { OnErr result (self.new ≡ self.old) }
+        ensures lacks { OnErr result (MayLack (G.Signer.left_of self.old.signer) (cell (me G.Signer.key_of self.old) self.old.state (Append handle.now prev.now entry.now height))) }
     {
         match &mut self.membership {
             None => Ok(wrong_phase(Phase::Uninitialized)),
@@ -142,6 +149,7 @@ impl<G: Scheme> Endorser<G> {
     ) -> Result<EndorserAnswer, NoMemory>
         ensures table { IfOk result (λ answer. Steps G.Signer.key_of G.Signer.left_of G.Signer.size_of G.Signer.signs self.old self.new (Latest handle.now nonce.now) (answer_of answer)) }
         ensures no_memory { OnErr result (self.new ≡ self.old) }
+        ensures lacks { OnErr result (MayLack (G.Signer.left_of self.old.signer) (cell (me G.Signer.key_of self.old) self.old.state (Latest handle.now nonce.now))) }
     {
         match &mut self.membership {
             None => Ok(wrong_phase(Phase::Uninitialized)),
@@ -157,11 +165,12 @@ impl<G: Scheme> Endorser<G> {
     ) -> Result<EndorserAnswer, NoMemory>
         ensures table { IfOk result (λ answer. Steps G.Signer.key_of G.Signer.left_of G.Signer.size_of G.Signer.signs self.old self.new (Finalize config.now number) (answer_of answer)) }
         ensures no_memory { OnErr result (self.new ≡ self.old) }
+        ensures lacks { OnErr result (MayLack (G.Signer.left_of self.old.signer) (cell (me G.Signer.key_of self.old) self.old.state (Finalize config.now number))) }
     {
-        match &self.membership {
-            None => Ok(wrong_phase(Phase::Uninitialized)),
-            Some(held) => held.finalize(alloc, config, number),
-        }
+        let Some(held) = &self.membership else {
+            return Ok(wrong_phase(Phase::Uninitialized));
+        };
+        held.finalize(alloc, config, number)
     }
 
     fn show(&mut self, handle: &Digest) -> EndorserAnswer
