@@ -1,11 +1,21 @@
-//! What no contract says of signing, rows, the endorser, views, clocks and passes: outside vectors, whole
-//! exchanges, that ample memory suffices, and what only running threads show.
+//! What no contract says of signing, rows, the endorser, views, replies, clocks and cells: outside vectors,
+//! whole exchanges, that ample memory suffices, and what only running threads show.
 
 #![tactic(auto)]
 
 #[cfg(test)]
 mod clocks;
 #[cfg(test)]
+mod endorser_calls;
+#[cfg(test)]
+mod endorsers;
+#[cfg(test)]
+mod replies;
+#[cfg(test)]
 mod rows;
 #[cfg(test)]
+mod signed;
+#[cfg(test)]
 mod signing;
+#[cfg(test)]
+mod views;

@@ -126,8 +126,8 @@ fn books_accept_or_refuse(rt: HostRuntime) -> Result<(), Fail> {
 
 /// A signer that has as many signatures left as it says, each of one byte.
 #[derive(Drop)]
-struct Counted {
-    left: u64,
+pub(crate) struct Counted {
+    pub(crate) left: u64,
 }
 
 impl Signer for Counted {
@@ -165,7 +165,7 @@ impl Signer for Counted {
 
 /// Accepts each signature of one byte.
 #[derive(Drop)]
-struct OfOneByte;
+pub(crate) struct OfOneByte;
 
 impl Checker for OfOneByte {
     ghost use Rattle.std.specs.Prelude.{length, nat_eq};
@@ -181,7 +181,7 @@ impl Checker for OfOneByte {
     }
 }
 
-struct CountedScheme;
+pub(crate) struct CountedScheme;
 
 impl Scheme for CountedScheme {
     type Signer = Counted;
