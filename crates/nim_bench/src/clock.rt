@@ -1,8 +1,8 @@
 ghost use Rattle.std.specs.Prelude.{◌≡◌, ◌≤◌};
 
-use crate::round::{Round, Size, show};
+use crate::round::{Round, Size, no_memory, show};
 use stamp_clock::{Clock, ClockName, ClockStart, NoMemory, Pass};
-use std::alloc::{AllocError, Global};
+use std::alloc::Global;
 use std::marker::Brand;
 use std::rt::Clock as Timer;
 use std::sync::atomic::{AtomicU64, Ordering};
@@ -26,16 +26,12 @@ pub fn measure<R: Threads + Timer + Print + Sync>(
         show(
             rt,
             size,
-            threads,
+            ("threads", threads),
             ("stamps", &stamps),
             ("fetch_add", &additions),
         )?;
     }
     Ok(())
-}
-
-fn no_memory(_: NoMemory) -> io::Error {
-    io::Error::from(AllocError)
 }
 
 fn stamps<R: Threads + Timer + Sync>(

@@ -7,6 +7,7 @@
 #![tactic(auto)]
 
 mod clock;
+mod endorser;
 mod round;
 
 use crate::round::Size;
@@ -21,5 +22,6 @@ fn size(rt: &HostRuntime) -> io::Result<Size> {
 
 fn main(rt: HostRuntime) -> io::Result<()> {
     let size = size(&rt)?;
-    clock::measure(&rt, rt.alloc(), size)
+    clock::measure(&rt, rt.alloc(), size)?;
+    endorser::measure(&rt, rt.alloc(), size)
 }

@@ -1,3 +1,5 @@
+use nim_base::NoMemory;
+use std::alloc::AllocError;
 use std::io;
 use std::time::Duration;
 
@@ -27,24 +29,28 @@ impl Round {
     }
 }
 
-/// Prints one line: a part's round beside that of its floor.
+pub fn no_memory(_: NoMemory) -> io::Error {
+    io::Error::from(AllocError)
+}
+
+/// Prints one line: a part's round, with what it was made of and how many, beside that of its floor.
 pub fn show<R: Print>(
     rt: &R,
     size: Size,
-    threads: u64,
+    (of, number): (&str, u64),
     (part, work): (&str, &Round),
     (floor, least): (&str, &Round),
 ) -> io::Result<()> {
     match size {
         Size::Small => println!(rt;
-            "{part}, threads {threads}: {} calls with the sum {}; {floor}: {} with the sum {}",
+            "{part}, {of} {number}: {} calls with the sum {}; {floor}: {} with the sum {}",
             work.calls, work.sum, least.calls, least.sum
         ),
         Size::Long => {
             let hundredths = work.time.as_nanos().saturating_mul(100)
                 / least.time.as_nanos().max(1);
             println!(rt;
-                "{part}, threads {threads}: {} a second; {floor}: {} a second; {}.{:02} times as long",
+                "{part}, {of} {number}: {} a second; {floor}: {} a second; {}.{:02} times as long",
                 work.rate(),
                 least.rate(),
                 hundredths / 100,
