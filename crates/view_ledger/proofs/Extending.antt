@@ -1,7 +1,7 @@
 -- When a view follows, and what the outcome of an extension is.
-use Rattle.std.proofs.Common.{◌≡◌, ℕ, suc, ◌+◌, ◌<◌, ◌≤◌, List, [], ◌∷◌, ◌++◌, length, map, not, Bool, true, false, cond, eqb, ltb, ◌&&◌, ◌||◌, Option, Some, None, Result, Ok, Err, inl, inr, refl, sym, ap, ◌∙◌, subst, arith}
+use Rattle.std.proofs.Common.{◌≡◌, ℕ, suc, ◌≤◌, List, [], ◌∷◌, map, not, Bool, true, false, eqb, ltb, ◌&&◌, Option, Some, None, Ok, Err, inl, inr, refl, ap, ◌∙◌, arith}
 use Rattle.std.specs.Prelude.{Contains, option_map}
-use Rattle.std.specs.List.{AllByRecursion, list_any}
+use Rattle.std.specs.List.{AllByRecursion}
 use Rattle.std.specs.Option.{option_or, option_map_or}
 use Rattle.std.specs.Str.{bytes_eq}
 use Rattle.std.proofs.lemmas.Bool.{cases_Bool, eqb-true, ltb-false, and_parts}
@@ -16,7 +16,7 @@ use Rattle.view_ledger.specs.declared.view_fault.ViewFault.{ViewFault}
 use Rattle.view_ledger.specs.declared.view_fault.ViewFault.TheVariants.{BadLink, BadMark, NoQuorum, NotGenuine}
 use Rattle.view_ledger.specs.Views.{ViewChain, newest_config, next_block}
 use Rattle.view_ledger.specs.Receipts.{Accepts, IsSigned, is_signed}
-use Rattle.view_ledger.specs.Extension.{AreGenuine, final_id, final_bytes, Follows, extended, is_genuine, first_not_genuine, is_block, bad_link, first_bad_final, no_quorum, finals_fault, extend_fault, extend_outcome}
+use Rattle.view_ledger.specs.Extension.{AreGenuine, final_id, final_bytes, Follows, extended, is_genuine, first_not_genuine, is_block, first_bad_final, no_quorum, finals_fault, extend_fault, extend_outcome}
 use Rattle.view_ledger.specs.Firsts.{or_none, none_found, all_map}
 use Rattle.view_ledger.specs.Signers.{signed, are_quorum}
 

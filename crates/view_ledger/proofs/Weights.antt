@@ -1,6 +1,6 @@
 -- What members weigh.
-use Rattle.std.proofs.Common.{◌≡◌, ℕ, ◌≤◌, List, [], ◌∷◌, cond, eqb, inl, inr, true, false, arith}
-use Rattle.std.specs.Prelude.{unwrap_or, Some}
+use Rattle.std.proofs.Common.{ℕ, ◌≤◌, List, [], ◌∷◌, eqb, inl, inr, arith}
+use Rattle.std.specs.Prelude.{unwrap_or}
 use Rattle.std.proofs.lemmas.Bool.{cases_Bool}
 use Rattle.statement.specs.declared.member.Member.{Member}
 use Rattle.statement.specs.Config.{weight_of}

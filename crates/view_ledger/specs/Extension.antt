@@ -1,5 +1,5 @@
 -- How a chain of views begins and grows.
-use Rattle.std.specs.Prelude.{◌≡◌, ℕ, ◌+◌, ◌==◌, ◌&&◌, Bool, not, nat_lt, if◌then◌else◌, List, [], ◌∷◌, ◌++◌, length, map, find, Contains, Option, Some, None, option_map, Result, Ok, Err}
+use Rattle.std.specs.Prelude.{◌≡◌, ℕ, ◌==◌, ◌&&◌, Bool, not, nat_lt, if◌then◌else◌, List, [], ◌∷◌, ◌++◌, map, find, Contains, Option, Some, None, option_map, Result, Ok, Err}
 use Rattle.std.specs.List.{AllByRecursion, list_any}
 use Rattle.std.specs.Option.{option_map_or, option_or}
 use Rattle.std.specs.Str.{bytes_eq}
@@ -13,7 +13,7 @@ use Rattle.statement.specs.Statement.{statement_bytes}
 use Rattle.port.specs.View.{FinalMark, ViewRow}
 use Rattle.view_ledger.specs.declared.view_fault.ViewFault.{ViewFault}
 use Rattle.view_ledger.specs.declared.view_fault.ViewFault.TheVariants.{BadLink, BadMark, NoQuorum, NotGenuine}
-use Rattle.view_ledger.specs.Views.{ViewChain, config_digest, newest_tail, newest_config, next_block}
+use Rattle.view_ledger.specs.Views.{ViewChain, newest_tail, newest_config, next_block}
 use Rattle.view_ledger.specs.Receipts.{Accepts, IsSigned, is_signed}
 
 -- each of the members stands in the roster with its key

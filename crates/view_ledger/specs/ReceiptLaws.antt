@@ -1,5 +1,5 @@
 -- Where the outcome of a receipt is the number of a view, the receipt is accepted under it, and the other way round.
-use Rattle.std.proofs.Common.{◌≡◌, ℕ, ◌<◌, ◌≤◌, List, length, map, not, Bool, true, false, cond, ltb, Option, Some, None, Result, Ok, Err, inl, inr, refl, sym, ap, ◌∙◌, arith}
+use Rattle.std.proofs.Common.{◌≡◌, ℕ, ◌≤◌, List, length, map, not, Bool, true, false, ltb, Option, Some, None, Result, Ok, Err, inl, inr, refl, sym, ap, ◌∙◌}
 use Rattle.std.specs.Prelude.{is_none, option_map}
 use Rattle.std.specs.List.{AllByRecursion}
 use Rattle.std.specs.Option.{option_or, option_map_or}
@@ -12,8 +12,8 @@ use Rattle.statement.specs.Mark.{Content, id_of}
 use Rattle.statement.specs.Receipt.{Receipt}
 use Rattle.view_ledger.specs.declared.receipt_fault.ReceiptFault.{ReceiptFault}
 use Rattle.view_ledger.specs.declared.receipt_fault.ReceiptFault.TheVariants.{UnknownView, Order, NotMember, BadMark, Few}
-use Rattle.view_ledger.specs.Views.{tail_at, config_at, number_of}
-use Rattle.view_ledger.specs.Receipts.{Accepts, IsSigned, IsAccepted, IsAcceptedIn, is_signed, first_stranger, first_bad_mark, few, marks_fault, receipt_outcome}
+use Rattle.view_ledger.specs.Views.{config_at, number_of}
+use Rattle.view_ledger.specs.Receipts.{Accepts, IsSigned, IsAcceptedIn, is_signed, first_stranger, first_bad_mark, few, marks_fault, receipt_outcome}
 use Rattle.view_ledger.specs.Tails.{newest_below-found}
 use Rattle.view_ledger.specs.Firsts.{or_none, none_found, found_none, all_map, rises, no_fall}
 use Rattle.view_ledger.specs.Signers.{signed, is_signed-true, are_quorum}

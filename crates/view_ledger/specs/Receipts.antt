@@ -1,5 +1,5 @@
 -- Receipts: which ones a chain of views accepts, and why it refuses the others.
-use Rattle.std.specs.Prelude.{◌≡◌, ℕ, Bool, false, true, not, nat_lt, if◌then◌else◌, List, map, find, Option, Some, None, is_some, is_none, option_map, Result, Ok, Err}
+use Rattle.std.specs.Prelude.{◌≡◌, ℕ, Bool, false, true, not, nat_lt, if◌then◌else◌, List, map, find, Option, Some, None, is_none, option_map, Result, Ok, Err}
 use Rattle.std.specs.List.{AllByRecursion}
 use Rattle.std.specs.Option.{option_map_or, option_or}
 use Rattle.statement.specs.declared.member.Member.{Member}

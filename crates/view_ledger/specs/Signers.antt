@@ -1,12 +1,12 @@
 -- Members that signed, and when they are a quorum.
-use Rattle.std.proofs.Common.{◌≡◌, ◌≢◌, ℕ, zero, suc, ◌<◌, ◌≤◌, List, [], ◌∷◌, length, get_or, map, Bool, true, false, cond, eqb, ltb, Option, Some, None, inl, inr, refl, sym, ◌∙◌, arith}
-use Rattle.std.specs.Prelude.{AllPairs, All, IsSome, is_some}
+use Rattle.std.proofs.Common.{◌≡◌, ◌≢◌, ℕ, zero, suc, ◌<◌, ◌≤◌, List, [], ◌∷◌, length, get_or, map, true, false, eqb, Option, Some, None, inl, inr, refl, arith}
+use Rattle.std.specs.Prelude.{AllPairs, IsSome}
 use Rattle.std.specs.List.{AllByRecursion}
 use Rattle.std.specs.Option.{option_map_or}
 use Rattle.std.proofs.lemmas.Bool.{cases_Bool, ltb-true}
 use Rattle.std.proofs.lemmas.List.Elements.{All-from_recursion}
 use Rattle.statement.specs.declared.member.Member.{Member}
-use Rattle.statement.specs.Ids.{is_above, RisesFrom, IsRising}
+use Rattle.statement.specs.Ids.{RisesFrom, IsRising}
 use Rattle.statement.specs.Config.{key_of, weight_of, weight_together, quorum, IsQuorum}
 use Rattle.view_ledger.specs.Receipts.{Accepts, IsSigned, is_signed}
 

@@ -1,6 +1,5 @@
-use Rattle.std.proofs.Common.{◌≡◌, [], List, drop, None, Option, ℕ, sym, ap, ◌∙◌, arith}
+use Rattle.std.proofs.Common.{◌≡◌, [], drop, sym, ap, ◌∙◌, arith}
 use Rattle.std.proofs.lemmas.List.{drop_all}
-use Rattle.statement.specs.declared.member.Member.{Member}
 use Rattle.view_ledger.specs.Extension.{first_not_genuine}
 use Rattle.view_ledger.proofs.Extending.{all_genuine}
 use Rattle.view_ledger.proofs.finals.first_not_genuine.Goals as goal

@@ -1,6 +1,4 @@
-use Rattle.std.proofs.Common.{◌≡◌, ℕ, ◌-◌, true, false, length, map, sym, ap, ◌∙◌, arith}
-use Rattle.std.specs.Str.{bytes_eq}
-use Rattle.view_ledger.specs.Views.{newest_below, number_of}
+use Rattle.std.proofs.Common.{◌≡◌, map, sym, ◌∙◌, arith}
 use Rattle.view_ledger.specs.Kept.{config_of}
 use Rattle.view_ledger.proofs.KeptViews.{step_hit, step_miss, has_tail, none_below}
 use Rattle.view_ledger.proofs.kept.find_view.Goals as goal

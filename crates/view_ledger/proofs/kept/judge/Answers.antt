@@ -1,7 +1,7 @@
-use Rattle.std.proofs.Common.{◌≡◌, ℕ, List, Some, None, map, get_or, sym, ap, ◌∙◌}
+use Rattle.std.proofs.Common.{ℕ, List, map, get_or, sym, ap, ◌∙◌}
 use Rattle.statement.specs.declared.member.Member.{Member}
-use Rattle.statement.specs.Statement.{view_of, statement_bytes}
-use Rattle.view_ledger.specs.Views.{config_at, number_of}
+use Rattle.statement.specs.Statement.{statement_bytes}
+use Rattle.view_ledger.specs.Views.{number_of}
 use Rattle.view_ledger.specs.Receipts.{marks_fault}
 use Rattle.view_ledger.specs.Kept.{config_of}
 use Rattle.view_ledger.proofs.KeptViews.{config_is}

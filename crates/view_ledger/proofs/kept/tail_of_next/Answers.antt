@@ -1,11 +1,4 @@
-use Rattle.std.proofs.Common.{◌≡◌, ℕ, List, [], ◌∷◌, ◌++◌, length, map, not, Bool, true, false, Option, Some, None, get_or, ◌-◌, rules, sym, ap, ◌∙◌}
-use Rattle.std.specs.Prelude.{option_map}
-use Rattle.sha2.specs.Sha256.{sha256}
-use Rattle.statement.specs.declared.member.Member.{Member}
-use Rattle.statement.specs.declared.view_block.ViewBlock.{ViewBlock}
-use Rattle.statement.specs.ViewBlock.{view_block_bytes}
-use Rattle.view_ledger.specs.declared.view_fault.ViewFault.TheVariants.{NotGenuine}
-use Rattle.view_ledger.specs.Views.{newest_tail, next_block}
+use Rattle.std.proofs.Common.{◌≡◌, length, map, not, Bool, true, false, Some, None, get_or, ◌-◌, rules, sym, ap, ◌∙◌}
 use Rattle.view_ledger.specs.Extension.{is_block, finals_fault, first_not_genuine}
 use Rattle.statement.specs.declared.statement.Statement.TheVariants.{Final}
 use Rattle.statement.specs.Statement.{statement_bytes}

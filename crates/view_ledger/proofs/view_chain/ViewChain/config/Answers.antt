@@ -1,4 +1,4 @@
-use Rattle.std.proofs.Common.{◌<◌, ap, subst, sym, length, arith, rules}
+use Rattle.std.proofs.Common.{◌<◌, subst, sym, length, rules}
 use Rattle.view_ledger.specs.declared.view.View.{View}
 use Rattle.view_ledger.specs.Views.{ViewChain}
 use Rattle.view_ledger.specs.Extension.{AreGenuine}

@@ -1,4 +1,4 @@
-use Rattle.std.proofs.Common.{◌≡◌, inr, Some, None, Result, Ok, Err, sym, ap, ◌∙◌, rules}
+use Rattle.std.proofs.Common.{◌≡◌, inr, Result, Ok, Err, sym, ap, ◌∙◌, rules}
 use Rattle.std.specs.Result.{result_err}
 use Rattle.view_ledger.specs.declared.view_fault.ViewFault.{ViewFault}
 use Rattle.view_ledger.specs.Views.{ViewChain}
