@@ -6,6 +6,7 @@
 
 #![tactic(auto)]
 
+mod checks;
 mod clock;
 mod endorser;
 mod round;
@@ -23,5 +24,6 @@ fn size(rt: &HostRuntime) -> io::Result<Size> {
 fn main(rt: HostRuntime) -> io::Result<()> {
     let size = size(&rt)?;
     clock::measure(&rt, rt.alloc(), size)?;
-    endorser::measure(&rt, rt.alloc(), size)
+    endorser::measure(&rt, rt.alloc(), size)?;
+    checks::measure(&rt, rt.alloc(), size)
 }

@@ -57,7 +57,7 @@ pub(crate) fn answer_seen(answer: &EndorserAnswer) -> Seen {
     }
 }
 
-fn refusal_seen(refusal: &EndorserRefusal) -> Seen {
+pub(crate) fn refusal_seen(refusal: &EndorserRefusal) -> Seen {
     match refusal {
         EndorserRefusal::Behind { count } => Seen::Behind(*count),
         EndorserRefusal::Stands { count, tail } => Seen::Stands(*count, *tail),

@@ -4,11 +4,15 @@
 #![tactic(auto)]
 
 #[cfg(test)]
+mod cells;
+#[cfg(test)]
 mod clocks;
 #[cfg(test)]
 mod endorser_calls;
 #[cfg(test)]
 mod endorsers;
+#[cfg(test)]
+mod hexadecimal;
 #[cfg(test)]
 mod replies;
 #[cfg(test)]

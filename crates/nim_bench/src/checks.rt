@@ -1,0 +1,155 @@
+ghost use Rattle.std.specs.Prelude.{IfOk};
+ghost use Rattle.chain_block.specs.Entry.{IsWithinLimits};
+
+use crate::round::{Round, Size, show};
+use chain_block::{Entry, MetaBlock, tail_of};
+use nim_base::{Digest, NoMemory, Nonce, Text, digest_of};
+use port::{Row, Standing};
+use seal::{Checker, KeyBook, MacSigner, Signer};
+use statement::{Config, Mark, Member, Receipt, Statement};
+use std::alloc::{AllocError, Global};
+use std::io;
+use std::rt::Clock as Timer;
+use std::time::Instant;
+use verifier::Verifier;
+use view_ledger::ViewChain;
+
+/// Checks of a reply with a chain of 0 and of 1,000 metablocks, beside the digests and signatures that each
+/// one needs.
+pub fn measure<R: Timer + Print>(rt: &R, alloc: Global, size: Size) -> io::Result<()> {
+    let (short, long) = match size {
+        Size::Small => (3, 1),
+        Size::Long => (100_000, 1_000),
+    };
+    measure_chain(rt, alloc, size, 0, short)?;
+    measure_chain(rt, alloc, size, 1000, long)
+}
+
+fn no_memory<T: Drop>(_: T) -> io::Error {
+    io::Error::from(AllocError)
+}
+
+fn member(id: u32) -> Member {
+    Member {
+        id,
+        key: MacSigner::of_id(id).key(),
+    }
+}
+
+fn first(alloc: Global) -> Result<Entry, NoMemory>
+    ensures { IfOk result IsWithinLimits }
+{
+    Ok(Entry::Genesis {
+        nonce: Nonce([7; 16]),
+        payload: Text::of(alloc, b"a payload")?,
+    })
+}
+
+/// Blocks above the first, and the tail to which they lead.
+fn blocks(alloc: Global, tail: Digest, above: u64) -> io::Result<(Vec<MetaBlock>, Digest)> {
+    let mut blocks = Vec::new(alloc);
+    let mut prev = tail;
+    for height in 0..above {
+        let block = MetaBlock {
+            prev,
+            entry: tail,
+            height: height.saturating_add(1),
+        };
+        prev = block.tail();
+        blocks.push(block)?;
+    }
+    Ok((blocks, prev))
+}
+
+fn receipt(alloc: Global, statement: Statement) -> io::Result<Receipt> {
+    let bytes = statement.bytes();
+    let mut marks = Vec::new(alloc);
+    for id in [1, 2] {
+        let sig = MacSigner::of_id(id)
+            .sign(alloc, bytes.as_slice())
+            .map_err(no_memory)?;
+        marks.push(Mark { id, sig })?;
+    }
+    Ok(Receipt { statement, marks })
+}
+
+fn measure_chain<R: Timer + Print>(
+    rt: &R,
+    alloc: Global,
+    size: Size,
+    above: u64,
+    calls: u64,
+) -> io::Result<()> {
+    let members = [member(1), member(2), member(3)];
+    let config = Config::of(alloc, &members).map_err(no_memory)?;
+    let chain = ViewChain::start(alloc, &config, &members).map_err(no_memory)?;
+    let view = chain.tail(0).unwrap_or(Digest::ZERO);
+    let entry = first(alloc).map_err(no_memory)?;
+    let handle = entry.handle();
+    let text = entry.write(alloc).map_err(no_memory)?;
+    let metablock = MetaBlock {
+        prev: Digest::ZERO,
+        entry: handle,
+        height: 0,
+    };
+    let (chain_blocks, tail) = blocks(alloc, metablock.tail(), above)?;
+    let statement = Statement::Held {
+        view,
+        handle,
+        tail,
+        count: above.saturating_add(1),
+    };
+    let reply = Standing {
+        row: Row { entry, metablock },
+        chain: chain_blocks,
+        receipt: receipt(alloc, statement)?,
+    };
+    let book = KeyBook::of_ids(alloc, &[1, 2, 3]).map_err(no_memory)?;
+    let verifier = Verifier::new(chain, book);
+    let begin = Instant::now(rt)?;
+    let sum = checks(&verifier, &handle, &reply, calls);
+    let time = begin.elapsed(rt)?;
+    let work = Round { calls, sum, time };
+    let begin = Instant::now(rt)?;
+    let sum = least(&verifier.checker, text.bytes(), &reply, calls);
+    let time = begin.elapsed(rt)?;
+    show(
+        rt,
+        size,
+        ("blocks", above),
+        ("checks", &work),
+        ("digests and signatures", &Round { calls, sum, time }),
+    )
+}
+
+fn checks(verifier: &Verifier<KeyBook>, handle: &Digest, reply: &Standing, calls: u64) -> u64 {
+    let mut accepted = 0u64;
+    for _ in 0..calls {
+        if verifier.check_at(handle, 0, reply).is_ok() {
+            accepted = accepted.wrapping_add(1);
+        }
+    }
+    accepted
+}
+
+/// The digests of the entry and of each block, and the two signatures.
+fn least(book: &KeyBook, entry: &[u8], reply: &Standing, calls: u64) -> u64 {
+    let mut accepted = 0u64;
+    let bytes = reply.receipt.statement.bytes();
+    let keys = [member(1).key, member(2).key];
+    for _ in 0..calls {
+        let digest = digest_of(entry);
+        let mut tail = tail_of(&Digest::ZERO, &digest, 0);
+        for block in &reply.chain {
+            tail = tail_of(&tail, &block.entry, block.height);
+        }
+        let mut good = tail != Digest::ZERO;
+        for (mark, key) in reply.receipt.marks.iter().zip(&keys) {
+            good = book.check(key, bytes.as_slice(), mark.sig.bytes()) && good;
+        }
+        if good {
+            accepted = accepted.wrapping_add(1);
+        }
+    }
+    accepted
+}
