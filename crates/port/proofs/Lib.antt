@@ -4,3 +4,4 @@ pub mod RowForms
 pub mod ViewForms
 pub mod FinalsForms
 pub mod Steps
+pub mod Traces

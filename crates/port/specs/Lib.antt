@@ -9,3 +9,12 @@ pub mod RowForm
 pub mod ViewForm
 pub mod FinalsForm
 pub mod Finding
+pub mod Count
+pub mod Stored
+pub mod Contents
+pub mod Store
+pub mod Heard
+pub mod Link
+pub mod Trace
+pub mod Cause
+pub mod Service
