@@ -1,0 +1,4 @@
+pub mod ClientLists
+pub mod Marks
+pub mod Verdicts
+pub mod Passes
