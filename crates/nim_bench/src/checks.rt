@@ -73,6 +73,43 @@ fn receipt(alloc: Global, statement: Statement) -> io::Result<Receipt> {
     Ok(Receipt { statement, marks })
 }
 
+/// A client of a view of three.
+fn client(alloc: Global) -> io::Result<Verifier<KeyBook>> {
+    let members = [member(1), member(2), member(3)];
+    let config = Config::of(alloc, &members).map_err(no_memory)?;
+    let chain = ViewChain::start(alloc, &config, &members).map_err(no_memory)?;
+    let book = KeyBook::of_ids(alloc, &[1, 2, 3]).map_err(no_memory)?;
+    Ok(Verifier::new(chain, book))
+}
+
+/// The first row of a ledger.
+fn first_row(alloc: Global) -> Result<Row, NoMemory> {
+    let entry = first(alloc)?;
+    let metablock = MetaBlock {
+        prev: Digest::ZERO,
+        entry: entry.handle(),
+        height: 0,
+    };
+    Ok(Row { entry, metablock })
+}
+
+/// What a service replies of this row, with so many blocks above it.
+fn reply(alloc: Global, view: Digest, row: Row, above: u64) -> io::Result<Standing> {
+    let handle = row.handle();
+    let (chain, tail) = blocks(alloc, row.metablock.tail(), above)?;
+    let statement = Statement::Held {
+        view,
+        handle,
+        tail,
+        count: above.saturating_add(1),
+    };
+    Ok(Standing {
+        row,
+        chain,
+        receipt: receipt(alloc, statement)?,
+    })
+}
+
 fn measure_chain<R: Timer + Print>(
     rt: &R,
     alloc: Global,
@@ -80,46 +117,42 @@ fn measure_chain<R: Timer + Print>(
     above: u64,
     calls: u64,
 ) -> io::Result<()> {
-    let members = [member(1), member(2), member(3)];
-    let config = Config::of(alloc, &members).map_err(no_memory)?;
-    let chain = ViewChain::start(alloc, &config, &members).map_err(no_memory)?;
-    let view = chain.tail(0).unwrap_or(Digest::ZERO);
-    let entry = first(alloc).map_err(no_memory)?;
-    let handle = entry.handle();
-    let text = entry.write(alloc).map_err(no_memory)?;
-    let metablock = MetaBlock {
-        prev: Digest::ZERO,
-        entry: handle,
-        height: 0,
-    };
-    let (chain_blocks, tail) = blocks(alloc, metablock.tail(), above)?;
-    let statement = Statement::Held {
-        view,
-        handle,
-        tail,
-        count: above.saturating_add(1),
-    };
-    let reply = Standing {
-        row: Row { entry, metablock },
-        chain: chain_blocks,
-        receipt: receipt(alloc, statement)?,
-    };
-    let book = KeyBook::of_ids(alloc, &[1, 2, 3]).map_err(no_memory)?;
-    let verifier = Verifier::new(chain, book);
-    let begin = Instant::now(rt)?;
-    let sum = checks(&verifier, &handle, &reply, calls);
-    let time = begin.elapsed(rt)?;
-    let work = Round { calls, sum, time };
-    let begin = Instant::now(rt)?;
-    let sum = least(&verifier.checker, text.bytes(), &reply, calls);
-    let time = begin.elapsed(rt)?;
+    let client = client(alloc)?;
+    let view = client.chain().tail(0).unwrap_or(Digest::ZERO);
+    let row = first_row(alloc).map_err(no_memory)?;
+    let reply = reply(alloc, view, row, above)?;
+    let work = timed_checks(rt, &client, &reply, calls)?;
+    let floor = timed_least(rt, alloc, &reply, calls)?;
     show(
         rt,
         size,
         ("blocks", above),
         ("checks", &work),
-        ("digests and signatures", &Round { calls, sum, time }),
+        ("digests and signatures", &floor),
     )
+}
+
+fn timed_checks<R: Timer>(
+    rt: &R,
+    client: &Verifier<KeyBook>,
+    reply: &Standing,
+    calls: u64,
+) -> io::Result<Round> {
+    let handle = reply.row.handle();
+    let begin = Instant::now(rt)?;
+    let sum = checks(client, &handle, reply, calls);
+    let time = begin.elapsed(rt)?;
+    Ok(Round { calls, sum, time })
+}
+
+fn timed_least<R: Timer>(rt: &R, alloc: Global, reply: &Standing, calls: u64) -> io::Result<Round> {
+    let book = KeyBook::of_ids(alloc, &[1, 2, 3]).map_err(no_memory)?;
+    let entry = first(alloc).map_err(no_memory)?;
+    let text = entry.write(alloc).map_err(no_memory)?;
+    let begin = Instant::now(rt)?;
+    let sum = least(&book, text.bytes(), reply, calls);
+    let time = begin.elapsed(rt)?;
+    Ok(Round { calls, sum, time })
 }
 
 fn checks(verifier: &Verifier<KeyBook>, handle: &Digest, reply: &Standing, calls: u64) -> u64 {
@@ -138,18 +171,32 @@ fn least(book: &KeyBook, entry: &[u8], reply: &Standing, calls: u64) -> u64 {
     let bytes = reply.receipt.statement.bytes();
     let keys = [member(1).key, member(2).key];
     for _ in 0..calls {
-        let digest = digest_of(entry);
-        let mut tail = tail_of(&Digest::ZERO, &digest, 0);
-        for block in &reply.chain {
-            tail = tail_of(&tail, &block.entry, block.height);
-        }
-        let mut good = tail != Digest::ZERO;
-        for (mark, key) in reply.receipt.marks.iter().zip(&keys) {
-            good = book.check(key, bytes.as_slice(), mark.sig.bytes()) && good;
-        }
-        if good {
+        let tail = last_tail(entry, reply.chain.as_slice());
+        let good = are_signed(
+            book,
+            &keys,
+            bytes.as_slice(),
+            reply.receipt.marks.as_slice(),
+        );
+        if good && tail != Digest::ZERO {
             accepted = accepted.wrapping_add(1);
         }
     }
     accepted
+}
+
+fn last_tail(entry: &[u8], chain: &[MetaBlock]) -> Digest {
+    let mut tail = tail_of(&Digest::ZERO, &digest_of(entry), 0);
+    for block in chain {
+        tail = tail_of(&tail, &block.entry, block.height);
+    }
+    tail
+}
+
+fn are_signed(book: &KeyBook, keys: &[Digest], bytes: &[u8], marks: &[Mark]) -> bool {
+    let mut good = true;
+    for (mark, key) in marks.iter().zip(keys) {
+        good = book.check(key, bytes, mark.sig.bytes()) && good;
+    }
+    good
 }
