@@ -1,15 +1,13 @@
 -- A client's lines that grow by one.
-use Rattle.std.proofs.Common.{◌≡◌, ◌≢◌, ◌⊎◌, inl, inr, ℕ, zero, suc, ◌+◌, ◌<◌, ◌≤◌, Bool, true, false, List, [], ◌∷◌, ◌++◌, length, slice_get, Option, Some, None, IfSome, IfNone, refl, sym, ap, subst, ◌∙◌, append_assoc, append-nil, arith}
-use Rattle.std.specs.Prelude.{option_to_list, flat_map, eqb, cond}
+use Rattle.std.proofs.Common.{◌≡◌, ◌≢◌, ◌⊎◌, inl, inr, ℕ, zero, suc, ◌+◌, ◌≤◌, Bool, List, [], ◌∷◌, ◌++◌, length, slice_get, Option, Some, None, IfSome, refl, sym, ap, subst, ◌∙◌, append_assoc, append-nil, arith}
+use Rattle.std.specs.Prelude.{option_to_list, eqb, cond}
 use Rattle.std.proofs.lemmas.Bool.Decides.{eqb_tells}
 use Rattle.chain_block.specs.declared.entry.Entry.{Entry}
-use Rattle.port.specs.Reply.{Standing, LatestReply}
 use Rattle.stamp_clock.specs.Stamps.{times, NoneTwice}
 use Rattle.view_ledger.specs.Views.{ViewChain}
 use Rattle.view_ledger.specs.Receipts.{Accepts}
-use Rattle.verifier.specs.declared.reply_fault.ReplyFault.{ReplyFault}
-use Rattle.client_pass.specs.Act.{Act, Draw, Append, Latest, At, Look, View, Line, line}
-use Rattle.client_pass.specs.ClientList.{IsClientList, IsDone, AreDone, IsAnswered, answered, answered_by, chain_after, chain_of, stamps_of, IsForEntry, IsForRead}
+use Rattle.client_pass.specs.Act.{Act, Draw, Line, line}
+use Rattle.client_pass.specs.ClientList.{IsClientList, IsDone, AreDone, answered, answered_by, chain_after, chain_of, stamps_of, IsForEntry, IsForRead}
 
 pub stamps_push : (lines : List Line) (line : Line) → stamps_of (lines ++ line ∷ []) ≡ stamps_of lines ++ line.stamp ∷ []
 stamps_push [] line = refl

@@ -1,10 +1,10 @@
 -- The marks of lines that grow by one.
-use Rattle.std.proofs.Common.{◌≡◌, ◌≢◌, ℕ, zero, suc, ◌+◌, ◌<◌, ◌≤◌, Bool, true, false, cond, eqb, List, [], ◌∷◌, ◌++◌, length, set, get_or, Option, Some, None, IfSome, IsTrue, ◌↔◌, refl, sym, ap, subst, ◌∙◌, append-nil, arith}
+use Rattle.std.proofs.Common.{◌≡◌, ◌≢◌, ℕ, zero, suc, ◌+◌, ◌<◌, Bool, true, false, cond, eqb, List, [], ◌∷◌, ◌++◌, length, set, get_or, Option, Some, None, IfSome, IsTrue, ◌↔◌, refl, sym, ap, subst, ◌∙◌, append-nil, arith}
 use Rattle.std.specs.Prelude.{option_to_list}
 use Rattle.std.proofs.lemmas.List.{length_push}
 use Rattle.std.proofs.Math.ListN.{length-set}
 use Rattle.stamp_clock.specs.Stamps.{times}
-use Rattle.client_pass.specs.Act.{Act, Line}
+use Rattle.client_pass.specs.Act.{Line}
 use Rattle.client_pass.specs.Lines.{AreMarked, marked}
 use Rattle.client_pass.specs.ClientList.{IsAnswered, answered, answered_by}
 use Rattle.client_pass.proofs.ClientLists.{answered_push, times_append, by_test}

@@ -1,7 +1,6 @@
 -- A client's pass that notes one act more.
-use Rattle.std.proofs.Common.{◌≡◌, ℕ, ◌+◌, ◌-◌, ◌<◌, ◌≤◌, List, [], ◌∷◌, ◌++◌, length, take, slice_get, Option, Some, None, IfSome, IfNone, Result, Ok, Err, option_map, refl, sym, ap, subst, ◌∙◌, length-append, arith}
+use Rattle.std.proofs.Common.{◌≡◌, ℕ, ◌+◌, ◌-◌, ◌<◌, ◌≤◌, List, [], ◌∷◌, ◌++◌, length, take, slice_get, Option, Some, None, IfSome, IfNone, Result, option_map, refl, sym, ap, subst, ◌∙◌, arith}
 use Rattle.std.specs.List.{All}
-use Rattle.std.specs.Result.{result_err}
 use Rattle.std.proofs.lemmas.List.{take-append-le, length_push}
 use Rattle.chain_block.specs.declared.entry.Entry.{Entry}
 use Rattle.chain_block.specs.declared.entry.Entry.TheVariants.{Genesis, Later}

@@ -1,5 +1,5 @@
 -- What the verifier's answers say of lines.
-use Rattle.std.proofs.Common.{◌≡◌, ℕ, ◌<◌, List, length, get_or, Option, Some, None, IfNone, IsOk, Result, Ok, Err, refl, sym, ap, subst, ◌∙◌}
+use Rattle.std.proofs.Common.{◌≡◌, ℕ, List, get_or, Option, Some, None, IfNone, IsOk, Result, Ok, Err, refl, sym, ap, subst, ◌∙◌}
 use Rattle.std.specs.Result.{result_err}
 use Rattle.std.proofs.lemmas.Option.{get_or_from_slice_get}
 use Rattle.chain_block.specs.declared.entry.Entry.{Entry}
@@ -15,8 +15,8 @@ use Rattle.view_ledger.specs.Extension.{extended, extend_fault, extend_outcome}
 use Rattle.verifier.specs.declared.reply_fault.ReplyFault.{ReplyFault}
 use Rattle.verifier.specs.Outcomes.{append_outcome}
 use Rattle.std.specs.Option.{option_map_or}
-use Rattle.client_pass.specs.Act.{Act, Draw, Line, line}
-use Rattle.client_pass.specs.ClientList.{IsForEntry, IsForRead}
+use Rattle.client_pass.specs.Act.{Draw, Line, line}
+use Rattle.client_pass.specs.ClientList.{IsForEntry}
 
 by_fault : (fault : Option ViewFault) (chain new : ViewChain) → ◌≡◌ {A = Result ViewChain ViewFault} (option_map_or (λ (f : ViewFault). Err f) fault (Ok chain)) (Ok new) → new ≡ chain
 by_fault None chain new e = cc

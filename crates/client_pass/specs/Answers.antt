@@ -1,5 +1,5 @@
 -- What the calls answer beside the lines that they add.
-use Rattle.std.specs.Prelude.{◌≡◌, Option, Some, None, Result, Ok, Err}
+use Rattle.std.specs.Prelude.{Option, Some, None, Result, Ok, Err}
 use Rattle.verifier.specs.declared.reply_fault.ReplyFault.{ReplyFault}
 use Rattle.view_ledger.specs.declared.view_fault.ViewFault.{ViewFault}
 use Rattle.client_pass.specs.declared.take_fault.TakeFault.{TakeFault}

@@ -1,5 +1,5 @@
 -- The lines as they are kept, with a mark at each draw that has its reply.
-use Rattle.std.specs.Prelude.{◌≡◌, ℕ, ◌+◌, ◌<◌, Bool, true, false, if◌then◌else◌, List, length, set, slice_index_or, Option, Some, None}
+use Rattle.std.specs.Prelude.{◌≡◌, ℕ, Bool, true, false, if◌then◌else◌, List, length, set, slice_index_or, Option, Some, None}
 use Rattle.stamp_clock.specs.Stamps.{times}
 use Rattle.client_pass.specs.Act.{Line}
 use Rattle.client_pass.specs.ClientList.{answered}

@@ -1,9 +1,8 @@
-use Rattle.std.proofs.Common.{◌≡◌, ℕ, List, Option, Some, IfNone, IsOk, sym, ap, subst, ◌∙◌}
+use Rattle.std.proofs.Common.{◌≡◌, Option, Some, sym, ap, ◌∙◌}
 use Rattle.chain_block.specs.declared.entry.Entry.{Entry}
 use Rattle.chain_block.specs.Entry.{bare}
-use Rattle.client_pass.specs.declared.client_act.ClientAct.{ClientAct}
 use Rattle.client_pass.specs.declared.client_act.ClientAct.TheVariants as acts
-use Rattle.client_pass.specs.Act.{Act, Line, act_of, Draw}
+use Rattle.client_pass.specs.Act.{Line, act_of, Draw}
 use Rattle.verifier.specs.Outcomes.{append_outcome}
 use Rattle.client_pass.proofs.Verdicts.{outcome_bare, read_entry, own_entry}
 use Rattle.client_pass.proofs.checks.append_fault.Goals as goal

@@ -1,4 +1,4 @@
-use Rattle.std.proofs.Common.{◌≡◌, ℕ, List, length, Option, ap, ◌∙◌}
+use Rattle.std.proofs.Common.{List, length, ap, ◌∙◌}
 use Rattle.std.specs.Prelude.{option_copied}
 use Rattle.client_pass.specs.Act.{Line}
 use Rattle.client_pass.proofs.Passes.{for_entry, for_read, same_lines}

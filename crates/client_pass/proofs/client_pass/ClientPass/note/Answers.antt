@@ -1,7 +1,7 @@
 use Rattle.std.proofs.Common.{◌≡◌, ℕ, List, [], ◌∷◌, ◌++◌, refl, sym, ap, ◌∙◌}
 use Rattle.stamp_clock.specs.Stamps.{Stamps}
 use Rattle.view_ledger.specs.Views.{ViewChain}
-use Rattle.client_pass.specs.Act.{Act, Line, line, act_of}
+use Rattle.client_pass.specs.Act.{Line, line, act_of}
 use Rattle.client_pass.specs.ClientList.{chain_after}
 use Rattle.client_pass.specs.ClientPass.{up_to}
 use Rattle.client_pass.proofs.ClientLists.{stamps_push}

@@ -1,4 +1,4 @@
-use Rattle.std.proofs.Common.{◌≡◌, Option}
+use Rattle.std.proofs.Common.{◌≡◌}
 use Rattle.verifier.specs.Outcomes.{append_outcome}
 use Rattle.client_pass.proofs.Passes.{by_answer, append_judged}
 use Rattle.client_pass.proofs.client_pass.ClientPass.take_append.Goals as goal

@@ -1,4 +1,4 @@
-use Rattle.std.proofs.Common.{◌≡◌, Option, Result, ap, sym, ◌∙◌}
+use Rattle.std.proofs.Common.{ap, sym, ◌∙◌}
 use Rattle.std.specs.Result.{result_err}
 use Rattle.client_pass.proofs.Passes.{latest_judged}
 use Rattle.client_pass.proofs.client_pass.ClientPass.take_latest.Goals as goal

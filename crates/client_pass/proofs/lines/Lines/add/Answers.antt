@@ -1,4 +1,4 @@
-use Rattle.std.proofs.Common.{◌≡◌, ◌+◌, ◌≤◌, List, sym, ap, subst, arith}
+use Rattle.std.proofs.Common.{List, sym, ap, subst, arith}
 use Rattle.client_pass.specs.Act.{Line, act_of, line}
 use Rattle.client_pass.specs.Lines.{Lines}
 use Rattle.client_pass.specs.ClientList.{answered_by}
