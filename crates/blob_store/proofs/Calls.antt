@@ -1,0 +1,58 @@
+-- One call of a store in memory.
+use Rattle.std.proofs.Common.{◌≡◌, ◌⊎◌, inl, inr, ⊎_elim, ℕ, ◌+◌, ◌<◌, ◌≤◌, arith, Bool, true, List, [], ◌∷◌, ◌++◌, Option, Some, None, refl, sym, ap, subst}
+use Rattle.std.specs.Option.{unwrap_or}
+use Rattle.std.specs.List.{Contains}
+use Rattle.std.proofs.lemmas.List.Elements.{Contains-append_left, Contains-append_right}
+use Rattle.port.specs.declared.key.Key.{Key}
+use Rattle.port.specs.Count.{next}
+use Rattle.port.specs.Contents.{Contents}
+use Rattle.port.specs.Store.{StoreCall, StoreAnswer, StoreView, StoreStep, IsHonest, Truth, Follows, is_failed, is_no_memory}
+use Rattle.blob_store.specs.Line.{Line, WasLogged}
+use Rattle.blob_store.specs.Rows.{contents_of}
+use Rattle.blob_store.specs.Memory.{memory_view, truth_of}
+use Rattle.blob_store.specs.declared.memory.Memory.{Memory}
+
+module _ (source : Key → Option Key) (forks : Key → Bool) (old new : Memory) (call : StoreCall) (answer : StoreAnswer) where
+  -- what a call does beside its line in the list
+  pub record Does : Type 0 where
+    pub calls : new.calls ≡ next old.calls
+    pub later : old.faults ≤ new.faults
+    pub failed : is_failed answer ≡ true → old.faults < new.faults
+    pub honest : new.faults ≡ old.faults → IsHonest (contents_of old.rows) call answer (contents_of new.rows)
+    pub follows : Follows (truth_of source forks old) call answer (truth_of source forks new)
+
+  step : (made : WasLogged new.log old.calls call answer) → ((n : ℕ) (c : StoreCall) (a : StoreAnswer) → WasLogged old.log n c a → WasLogged new.log n c a) → Does → StoreStep (memory_view source forks) old new call answer
+  step made keeps does = record {
+    later = does.later;
+    failed = does.failed;
+    counted = does.calls;
+    made = made;
+    keeps = keeps;
+    honest = λ contents tells same. (contents_of new.rows, refl, subst (λ (x : Contents). IsHonest x call answer (contents_of new.rows)) (ap (λ (o : Option Contents). unwrap_or o (contents_of old.rows)) tells) (does.honest same));
+    follows = λ truth tells. (truth_of source forks new, refl, subst (λ (x : Truth). Follows x call answer (truth_of source forks new)) (ap (λ (o : Option Truth). unwrap_or o (truth_of source forks old)) tells) does.follows);
+  }
+
+  -- the call was added to the list
+  pub logged : new.log ≡ old.log ++ record { number = old.calls; call = call; answer = answer } ∷ [] → Does → StoreStep (memory_view source forks) old new call answer
+  logged is does =
+      let line : Line = record { number = old.calls; call = call; answer = answer } in
+      step
+      (inr (subst (λ (l : List Line). Contains l line) (sym is) (Contains-append_right old.log (line ∷ []) line (0, omega arith, refl))))
+      (λ n c a was. subst (λ (l : List Line). WasLogged l n c a) (sym is) (⊎_elim (λ e. inl e) (λ h. inr (Contains-append_left old.log (line ∷ []) _ h)) was))
+      does
+
+  -- the call found no memory
+  pub unlogged : is_no_memory answer ≡ true → new.log ≡ old.log → Does → StoreStep (memory_view source forks) old new call answer
+  unlogged none is does = step (inl none) (λ n c a was. subst (λ (l : List Line). WasLogged l n c a) (sym is) was) does
+
+-- a call of what a value holds is a call of the value
+pub carried : {S T : Type 0} (view : S → StoreView) (part : T → S) (old new : T) (call : StoreCall) (answer : StoreAnswer) → StoreStep view (part old) (part new) call answer → StoreStep (λ t. view (part t)) old new call answer
+carried view part old new call answer step = record {
+  later = step.later;
+  failed = step.failed;
+  counted = step.counted;
+  made = step.made;
+  keeps = step.keeps;
+  honest = step.honest;
+  follows = step.follows;
+}

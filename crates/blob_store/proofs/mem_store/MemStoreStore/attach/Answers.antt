@@ -1,0 +1,9 @@
+use Rattle.std.proofs.Common.{◌≡◌, refl}
+use Rattle.blob_store.specs.Memory.{memory_view}
+use Rattle.blob_store.specs.MemStore.{itself, never}
+use Rattle.blob_store.specs.declared.mem_store.MemStore.{MemStore}
+use Rattle.blob_store.proofs.Calls.{carried}
+use Rattle.blob_store.proofs.mem_store.MemStoreStore.attach.Goals as goal
+
+pub returns : goal.returns
+returns c = carried (memory_view itself never) (λ (store : MemStore). store.memory) c.args.self.now _ _ _ (c.attach.ensures itself never)

@@ -1,0 +1,4 @@
+pub mod Rows
+pub mod Line
+pub mod Memory
+pub mod MemStore

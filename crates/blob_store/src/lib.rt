@@ -1,0 +1,16 @@
+//! Stores in memory.
+//!
+//! - [`MemStore`] is a map from keys to what was put and attached there. It fails only as it was asked to.
+//!
+//! A store keeps the list of its calls with their numbers and answers, and what is known of its calls is that list.
+//! In it equal bytes of one key are held once.
+
+#![tactic(auto)]
+
+mod call_log;
+mod mem_store;
+mod memory;
+mod pool;
+mod rows;
+
+pub use mem_store::MemStore;

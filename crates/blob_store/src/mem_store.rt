@@ -1,0 +1,62 @@
+ghost use Rattle.std.specs.Prelude.{◌≡◌, ◌+◌, ◌-◌, ◌^◌, min, Some};
+ghost use Rattle.port.specs.Contents.{nothing};
+
+use crate::memory::Memory;
+use port::{Attached, Got, Key, Put, Store};
+use std::alloc::Global;
+
+/// An honest store in memory, which fails only as it was asked to, and tells its contents.
+#[derive(Drop)]
+pub struct MemStore {
+    memory: Memory,
+}
+
+impl MemStore {
+    ghost use Rattle.blob_store.specs.MemStore.{mem_view, truth_in, itself, never};
+
+    /// A store in which nothing stands. It takes no memory.
+    pub fn new(alloc: Global) -> MemStore
+        ensures told { (mem_view result).told ≡ Some nothing }
+        ensures truth { (mem_view result).truth ≡ Some (record { contents = nothing; source = itself; forks = never; due = 0 }) }
+        ensures calls { (mem_view result).calls ≡ 0 }
+        ensures faults { (mem_view result).faults ≡ 0 }
+    {
+        MemStore {
+            memory: Memory::new(alloc),
+        }
+    }
+
+    /// Lets this many more calls fail before they do anything, after those that are still to fail, as far as the
+    /// number of faults fits 64 bits then.
+    pub fn fail_next(&mut self, n: u64)
+        ensures due { (truth_in self.new).due ≡ min ((truth_in self.old).due + n) (2 ^ 64 - 1 - (mem_view self.old).faults) }
+        ensures contents { (truth_in self.new).contents ≡ (truth_in self.old).contents }
+        ensures calls { (mem_view self.new).calls ≡ (mem_view self.old).calls }
+        ensures log { self.new.memory.log ≡ self.old.memory.log }
+        ensures faults { (mem_view self.new).faults ≡ (mem_view self.old).faults }
+    {
+        self.memory.fail_next(n);
+    }
+}
+
+impl Store for MemStore {
+    ghost use Rattle.blob_store.specs.MemStore.{mem_view};
+
+    ghost view = { mem_view };
+
+    fn put_new(&mut self, alloc: Global, key: &Key, body: &[u8]) -> Put {
+        self.memory.put_new(alloc, key, body, false)
+    }
+
+    fn get(&mut self, alloc: Global, key: &Key) -> Got {
+        self.memory.get(alloc, key, &Some(*key))
+    }
+
+    fn attach(&mut self, alloc: Global, key: &Key, bytes: &[u8]) -> Attached {
+        self.memory.attach(alloc, key, bytes)
+    }
+
+    fn faults(&self) -> u64 {
+        self.memory.faults
+    }
+}
