@@ -10,7 +10,11 @@ use Rattle.port.specs.Store.{StoreCall, StoreAnswer, StoreView, StoreStep, IsHon
 use Rattle.blob_store.specs.Line.{Line, WasLogged}
 use Rattle.blob_store.specs.Rows.{contents_of}
 use Rattle.blob_store.specs.Memory.{memory_view, truth_of}
+use Rattle.blob_store.specs.Lies.{source_of, forks_of}
+use Rattle.blob_store.specs.LyingStore.{lying_view}
 use Rattle.blob_store.specs.declared.memory.Memory.{Memory}
+use Rattle.blob_store.specs.declared.lies.Lies.{Lies}
+use Rattle.blob_store.specs.declared.lying_store.LyingStore.{LyingStore}
 
 module _ (source : Key → Option Key) (forks : Key → Bool) (old new : Memory) (call : StoreCall) (answer : StoreAnswer) where
   -- what a call does beside its line in the list
@@ -56,3 +60,17 @@ carried view part old new call answer step = record {
   honest = step.honest;
   follows = step.follows;
 }
+
+-- a call of a store that lies, where its lies stay
+pub lied : (old new : LyingStore) (call : StoreCall) (answer : StoreAnswer) → new.lies ≡ old.lies
+    → StoreStep (memory_view (source_of old.lies) (forks_of old.lies)) old.memory new.memory call answer → StoreStep lying_view old new call answer
+lied old new call answer same step =
+    subst (λ (lies : Lies). StoreStep lying_view old (record { memory = new.memory; lies = lies }) call answer) (sym same) (record {
+      later = step.later;
+      failed = step.failed;
+      counted = step.counted;
+      made = step.made;
+      keeps = step.keeps;
+      honest = step.honest;
+      follows = step.follows;
+    })

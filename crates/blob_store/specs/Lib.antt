@@ -2,3 +2,5 @@ pub mod Rows
 pub mod Line
 pub mod Memory
 pub mod MemStore
+pub mod Lies
+pub mod LyingStore

@@ -18,7 +18,7 @@ pub(crate) struct Rows {
 }
 
 // Two keys tie in their order just where they are the same.
-fn keys_tie()
+pub(crate) fn keys_tie()
     ensures { (a b : Key) → is_eq (⟦<Key as Ord>⟧.cmp a b) ≡ is_same_key a b }
 {}
 
