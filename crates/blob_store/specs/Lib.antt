@@ -2,5 +2,6 @@ pub mod Rows
 pub mod Line
 pub mod Memory
 pub mod MemStore
+pub mod Fault
 pub mod Lies
 pub mod LyingStore

@@ -1,6 +1,8 @@
-ghost use Rattle.std.specs.Prelude.{◌≡◌, ◌+◌, ◌-◌, ◌^◌, min, Some, OnOk, OnErr};
+ghost use Rattle.std.specs.Prelude.{◌≡◌, ◌+◌, ◌-◌, ◌^◌, ℕ, min, true, Some, OnOk, OnErr};
 ghost use Rattle.std.specs.Option.{option_copied};
 ghost use Rattle.port.specs.Contents.{nothing};
+ghost use Rattle.port.specs.Store.{StoreCall, StoreAnswer, StoreStep, PutNew, Get, Attach, WasPut, WasGot, WasAttached, failures, is_no_memory};
+ghost use Rattle.blob_store.specs.Fault.{Counts, Stays};
 
 use crate::lie::Lie;
 use crate::lies::Lies;
@@ -31,6 +33,7 @@ impl LyingStore {
         ensures truth { (lying_view result).truth ≡ Some (record { contents = nothing; source = itself; forks = never; due = 0 }) }
         ensures calls { (lying_view result).calls ≡ 0 }
         ensures faults { (lying_view result).faults ≡ 0 }
+        ensures none { (n : ℕ) (call : StoreCall) (answer : StoreAnswer) → (lying_view result).was n call answer → is_no_memory answer ≡ true }
     {
         LyingStore {
             memory: Memory::new(alloc),
@@ -44,7 +47,9 @@ impl LyingStore {
         ensures forks { OnOk result ((held_in self.new).forks ≡ forks_after (held_in self.old).forks lie.now) }
         ensures same_source { OnErr result ((held_in self.new).source ≡ (held_in self.old).source) }
         ensures same_forks { OnErr result ((held_in self.new).forks ≡ (held_in self.old).forks) }
-        ensures rest { self.new.memory ≡ self.old.memory }
+        ensures held { (held_in self.new).contents ≡ (held_in self.old).contents }
+        ensures due { (held_in self.new).due ≡ (held_in self.old).due }
+        ensures stays { Stays lying_view self.old self.new }
     {
         self.lies.add(lie)
     }
@@ -53,7 +58,9 @@ impl LyingStore {
     pub fn honest(&mut self)
         ensures source { (held_in self.new).source ≡ itself }
         ensures forks { (held_in self.new).forks ≡ never }
-        ensures rest { self.new.memory ≡ self.old.memory }
+        ensures held { (held_in self.new).contents ≡ (held_in self.old).contents }
+        ensures due { (held_in self.new).due ≡ (held_in self.old).due }
+        ensures stays { Stays lying_view self.old self.new }
     {
         self.lies.clear();
     }
@@ -65,9 +72,7 @@ impl LyingStore {
         ensures contents { (held_in self.new).contents ≡ (held_in self.old).contents }
         ensures source { (held_in self.new).source ≡ (held_in self.old).source }
         ensures forks { (held_in self.new).forks ≡ (held_in self.old).forks }
-        ensures calls { (lying_view self.new).calls ≡ (lying_view self.old).calls }
-        ensures log { self.new.memory.log ≡ self.old.memory.log }
-        ensures faults { (lying_view self.new).faults ≡ (lying_view self.old).faults }
+        ensures stays { Stays lying_view self.old self.new }
     {
         self.memory.fail_next(n);
     }
@@ -81,21 +86,32 @@ impl LyingStore {
 }
 
 impl Store for LyingStore {
-    ghost use Rattle.blob_store.specs.LyingStore.{lying_view};
+    ghost use Rattle.blob_store.specs.LyingStore.{lying_view, held_in};
 
     ghost view = { lying_view };
 
-    fn put_new(&mut self, alloc: Global, key: &Key, body: &[u8]) -> Put {
+    fn put_new(&mut self, alloc: Global, key: &Key, body: &[u8]) -> Put
+        ensures step { StoreStep lying_view self.old self.new (PutNew key.now body.now) (WasPut result) }
+
+        // what this store promises besides
+        ensures counts { Counts (held_in self.old).contents (PutNew key.now body.now) (WasPut result) (lying_view self.old).faults (lying_view self.new).faults }
+    {
         let forks = self.lies.forks(key);
         self.memory.put_new(alloc, key, body, forks)
     }
 
-    fn get(&mut self, alloc: Global, key: &Key) -> Got {
+    fn get(&mut self, alloc: Global, key: &Key) -> Got
+        ensures step { StoreStep lying_view self.old self.new (Get key.now) (WasGot result) }
+        ensures counts { Counts (held_in self.old).contents (Get key.now) (WasGot result) (lying_view self.old).faults (lying_view self.new).faults }
+    {
         let source = self.lies.source(key);
         self.memory.get(alloc, key, &source)
     }
 
-    fn attach(&mut self, alloc: Global, key: &Key, bytes: &[u8]) -> Attached {
+    fn attach(&mut self, alloc: Global, key: &Key, bytes: &[u8]) -> Attached
+        ensures step { StoreStep lying_view self.old self.new (Attach key.now bytes.now) (WasAttached result) }
+        ensures counts { (lying_view self.new).faults ≡ (lying_view self.old).faults + failures (WasAttached result) }
+    {
         self.memory.attach(alloc, key, bytes)
     }
 

@@ -1,5 +1,7 @@
-ghost use Rattle.std.specs.Prelude.{◌≡◌, ◌+◌, ◌-◌, ◌^◌, min, Some};
+ghost use Rattle.std.specs.Prelude.{◌≡◌, ◌+◌, ◌-◌, ◌^◌, ℕ, min, true, Some};
 ghost use Rattle.port.specs.Contents.{nothing};
+ghost use Rattle.port.specs.Store.{StoreCall, StoreAnswer, StoreStep, PutNew, Get, Attach, WasPut, WasGot, WasAttached, failures, is_no_memory};
+ghost use Rattle.blob_store.specs.Fault.{Stays};
 
 use crate::memory::Memory;
 use port::{Attached, Got, Key, Put, Store};
@@ -20,6 +22,7 @@ impl MemStore {
         ensures truth { (mem_view result).truth ≡ Some (record { contents = nothing; source = itself; forks = never; due = 0 }) }
         ensures calls { (mem_view result).calls ≡ 0 }
         ensures faults { (mem_view result).faults ≡ 0 }
+        ensures none { (n : ℕ) (call : StoreCall) (answer : StoreAnswer) → (mem_view result).was n call answer → is_no_memory answer ≡ true }
     {
         MemStore {
             memory: Memory::new(alloc),
@@ -31,9 +34,7 @@ impl MemStore {
     pub fn fail_next(&mut self, n: u64)
         ensures due { (truth_in self.new).due ≡ min ((truth_in self.old).due + n) (2 ^ 64 - 1 - (mem_view self.old).faults) }
         ensures contents { (truth_in self.new).contents ≡ (truth_in self.old).contents }
-        ensures calls { (mem_view self.new).calls ≡ (mem_view self.old).calls }
-        ensures log { self.new.memory.log ≡ self.old.memory.log }
-        ensures faults { (mem_view self.new).faults ≡ (mem_view self.old).faults }
+        ensures stays { Stays mem_view self.old self.new }
     {
         self.memory.fail_next(n);
     }
@@ -44,15 +45,26 @@ impl Store for MemStore {
 
     ghost view = { mem_view };
 
-    fn put_new(&mut self, alloc: Global, key: &Key, body: &[u8]) -> Put {
+    fn put_new(&mut self, alloc: Global, key: &Key, body: &[u8]) -> Put
+        ensures step { StoreStep mem_view self.old self.new (PutNew key.now body.now) (WasPut result) }
+
+        // what the honest store promises besides
+        ensures faults { (mem_view self.new).faults ≡ (mem_view self.old).faults + failures (WasPut result) }
+    {
         self.memory.put_new(alloc, key, body, false)
     }
 
-    fn get(&mut self, alloc: Global, key: &Key) -> Got {
+    fn get(&mut self, alloc: Global, key: &Key) -> Got
+        ensures step { StoreStep mem_view self.old self.new (Get key.now) (WasGot result) }
+        ensures faults { (mem_view self.new).faults ≡ (mem_view self.old).faults + failures (WasGot result) }
+    {
         self.memory.get(alloc, key, &Some(*key))
     }
 
-    fn attach(&mut self, alloc: Global, key: &Key, bytes: &[u8]) -> Attached {
+    fn attach(&mut self, alloc: Global, key: &Key, bytes: &[u8]) -> Attached
+        ensures step { StoreStep mem_view self.old self.new (Attach key.now bytes.now) (WasAttached result) }
+        ensures faults { (mem_view self.new).faults ≡ (mem_view self.old).faults + failures (WasAttached result) }
+    {
         self.memory.attach(alloc, key, bytes)
     }
 

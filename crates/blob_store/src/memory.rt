@@ -1,8 +1,9 @@
-ghost use Rattle.std.specs.Prelude.{◌≡◌, ◌+◌, ◌-◌, ◌<◌, ◌^◌, ℕ, Bool, Option, min, true, false, [], is_some};
+ghost use Rattle.std.specs.Prelude.{◌≡◌, ◌+◌, ◌-◌, ◌<◌, ◌^◌, ℕ, Bool, Option, min, Some, true, false, [], is_some};
 ghost use Rattle.port.specs.declared.key.Key.{Key};
 ghost use Rattle.port.specs.Contents.{nothing};
-ghost use Rattle.port.specs.Store.{StoreStep, PutNew, Get, Attach, WasPut, WasGot, WasAttached};
+ghost use Rattle.port.specs.Store.{StoreStep, PutNew, Get, Attach, WasPut, WasGot, WasAttached, failures};
 ghost use Rattle.blob_store.specs.Rows.{contents_of};
+ghost use Rattle.blob_store.specs.Fault.{Counts};
 
 use crate::call_log::CallLog;
 use crate::rows::Rows;
@@ -54,8 +55,10 @@ impl Memory {
     }
 
     pub fn put_new(&mut self, alloc: Global, key: &Key, body: &[u8], replaces: bool) -> Put
-        ensures { (source : Key → Option Key) (forks : Key → Bool) → forks key.now ≡ replaces
+        ensures step { (source : Key → Option Key) (forks : Key → Bool) → forks key.now ≡ replaces
             → StoreStep (memory_view source forks) self.old self.new (PutNew key.now body.now) (WasPut result) }
+        ensures counts { Counts (contents_of self.old.rows) (PutNew key.now body.now) (WasPut result) self.old.faults self.new.faults }
+        ensures honest { replaces ≡ false → self.new.faults ≡ self.old.faults + failures (WasPut result) }
     {
         let number = self.calls;
         self.calls = number.saturating_add(1);
@@ -110,8 +113,10 @@ impl Memory {
     }
 
     pub fn get(&mut self, alloc: Global, key: &Key, source: &Option<Key>) -> Got
-        ensures { (sources : Key → Option Key) (forks : Key → Bool) → sources key.now ≡ source.now
+        ensures step { (sources : Key → Option Key) (forks : Key → Bool) → sources key.now ≡ source.now
             → StoreStep (memory_view sources forks) self.old self.new (Get key.now) (WasGot result) }
+        ensures counts { Counts (contents_of self.old.rows) (Get key.now) (WasGot result) self.old.faults self.new.faults }
+        ensures honest { source.now ≡ Some key.now → self.new.faults ≡ self.old.faults + failures (WasGot result) }
     {
         let number = self.calls;
         self.calls = number.saturating_add(1);
@@ -151,8 +156,9 @@ impl Memory {
     }
 
     pub fn attach(&mut self, alloc: Global, key: &Key, bytes: &[u8]) -> Attached
-        ensures { (source : Key → Option Key) (forks : Key → Bool)
+        ensures step { (source : Key → Option Key) (forks : Key → Bool)
             → StoreStep (memory_view source forks) self.old self.new (Attach key.now bytes.now) (WasAttached result) }
+        ensures counts { self.new.faults ≡ self.old.faults + failures (WasAttached result) }
     {
         let number = self.calls;
         self.calls = number.saturating_add(1);

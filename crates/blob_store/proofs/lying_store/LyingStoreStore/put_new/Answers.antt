@@ -3,5 +3,5 @@ use Rattle.blob_store.specs.Lies.{source_of, forks_of}
 use Rattle.blob_store.proofs.Calls.{lied}
 use Rattle.blob_store.proofs.lying_store.LyingStoreStore.put_new.Goals as goal
 
-pub returns : goal.returns
-returns c = lied c.args.self.now _ _ _ refl (c.put_new.ensures (source_of c.args.self.now.lies) (forks_of c.args.self.now.lies) (sym c.forks-forks.ensures))
+pub returns-clause-step : goal.returns-clause-step
+returns-clause-step c = lied c.args.self.now _ _ _ refl (c.put_new.ensures.step (source_of c.args.self.now.lies) (forks_of c.args.self.now.lies) (sym c.forks-forks.ensures))

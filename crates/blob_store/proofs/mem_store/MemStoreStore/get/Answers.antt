@@ -5,5 +5,5 @@ use Rattle.blob_store.specs.declared.mem_store.MemStore.{MemStore}
 use Rattle.blob_store.proofs.Calls.{carried}
 use Rattle.blob_store.proofs.mem_store.MemStoreStore.get.Goals as goal
 
-pub returns : goal.returns
-returns c = carried (memory_view itself never) (λ (store : MemStore). store.memory) c.args.self.now _ _ _ (c.get.ensures itself never refl)
+pub returns-clause-step : goal.returns-clause-step
+returns-clause-step c = carried (memory_view itself never) (λ (store : MemStore). store.memory) c.args.self.now _ _ _ (c.get.ensures.step itself never refl)

@@ -2,8 +2,8 @@ use Rattle.std.proofs.Common.{◌≡◌, refl, sym, ap, ◌∙◌, inl, inr, rul
 use Rattle.blob_store.proofs.Calls.{logged, unlogged}
 use Rattle.blob_store.proofs.memory.Memory.get.Goals as goal
 
-pub returns-then-self-gt0 : goal.returns-then-self-gt0
-returns-then-self-gt0 c source forks is = logged source forks _ _ _ _ (search rules) (record {
+pub returns-then-self-gt0-clause-step : goal.returns-then-self-gt0-clause-step
+returns-then-self-gt0-clause-step c source forks is = logged source forks _ _ _ _ (search rules) (record {
   calls = search rules;
   later = omega arith;
   failed = λ e. omega arith;
@@ -11,8 +11,8 @@ returns-then-self-gt0 c source forks is = logged source forks _ _ _ _ (search ru
   follows = record { contents = refl; due = omega (arith, c.if-self-gt0.true); in_turn = λ a b. cc a; same_source = refl; same_forks = refl };
 })
 
-pub returns-then-lies-2 : goal.returns-then-lies-2
-returns-then-lies-2 c source forks is = logged source forks _ _ _ _ (search rules) (record {
+pub returns-then-lies-2-clause-step : goal.returns-then-lies-2-clause-step
+returns-then-lies-2-clause-step c source forks is = logged source forks _ _ _ _ (search rules) (record {
   calls = search rules;
   later = omega arith;
   failed = λ e. cc e;
@@ -20,8 +20,8 @@ returns-then-lies-2 c source forks is = logged source forks _ _ _ _ (search rule
   follows = record { contents = (search rules, refl); due = omega arith; in_turn = λ a b. omega (arith, c.if-self-gt0.false); same_source = refl; same_forks = refl };
 })
 
-pub returns-in_default : goal.returns-in_default
-returns-in_default c source forks is = logged source forks _ _ _ _ (search rules) (record {
+pub returns-in_default-clause-step : goal.returns-in_default-clause-step
+returns-in_default-clause-step c source forks is = logged source forks _ _ _ _ (search rules) (record {
   calls = search rules;
   later = omega arith;
   failed = λ e. cc e;
@@ -29,8 +29,8 @@ returns-in_default c source forks is = logged source forks _ _ _ _ (search rules
   follows = record { contents = (search rules, refl); due = omega arith; in_turn = λ a b. omega (arith, c.if-self-gt0.false); same_source = refl; same_forks = refl };
 })
 
-pub returns-then-lies-3 : goal.returns-then-lies-3
-returns-then-lies-3 c source forks is = logged source forks _ _ _ _ (search rules) (record {
+pub returns-then-lies-3-clause-step : goal.returns-then-lies-3-clause-step
+returns-then-lies-3-clause-step c source forks is = logged source forks _ _ _ _ (search rules) (record {
   calls = search rules;
   later = omega arith;
   failed = λ e. cc e;
@@ -38,8 +38,8 @@ returns-then-lies-3 c source forks is = logged source forks _ _ _ _ (search rule
   follows = record { contents = (search rules, refl); due = omega arith; in_turn = λ a b. omega (arith, c.if-self-gt0.false); same_source = refl; same_forks = refl };
 })
 
-pub returns-else-lies-3 : goal.returns-else-lies-3
-returns-else-lies-3 c source forks is = logged source forks _ _ _ _ (search rules) (record {
+pub returns-else-lies-3-clause-step : goal.returns-else-lies-3-clause-step
+returns-else-lies-3-clause-step c source forks is = logged source forks _ _ _ _ (search rules) (record {
   calls = search rules;
   later = omega arith;
   failed = λ e. cc e;

@@ -2,8 +2,8 @@ use Rattle.std.proofs.Common.{◌≡◌, refl, sym, ap, ◌∙◌, inl, inr, rul
 use Rattle.blob_store.proofs.Calls.{logged, unlogged}
 use Rattle.blob_store.proofs.memory.Memory.put_new.Goals as goal
 
-pub returns-then-self-gt0 : goal.returns-then-self-gt0
-returns-then-self-gt0 c source forks is = logged source forks _ _ _ _ (search rules) (record {
+pub returns-then-self-gt0-clause-step : goal.returns-then-self-gt0-clause-step
+returns-then-self-gt0-clause-step c source forks is = logged source forks _ _ _ _ (search rules) (record {
   calls = search rules;
   later = omega arith;
   failed = λ e. omega arith;
@@ -11,8 +11,8 @@ returns-then-self-gt0 c source forks is = logged source forks _ _ _ _ (search ru
   follows = record { contents = refl; due = omega (arith, c.if-self-gt0.true); in_turn = λ a b. cc a; same_source = refl; same_forks = refl };
 })
 
-pub returns-then-not-replaces : goal.returns-then-not-replaces
-returns-then-not-replaces c source forks is = logged source forks _ _ _ _ (search rules) (record {
+pub returns-then-not-replaces-clause-step : goal.returns-then-not-replaces-clause-step
+returns-then-not-replaces-clause-step c source forks is = logged source forks _ _ _ _ (search rules) (record {
   calls = search rules;
   later = omega arith;
   failed = λ e. cc e;
@@ -20,8 +20,8 @@ returns-then-not-replaces c source forks is = logged source forks _ _ _ _ (searc
   follows = record { contents = (search rules, search rules, refl); due = omega arith; in_turn = λ a b. omega (arith, c.if-self-gt0.false); same_source = refl; same_forks = refl };
 })
 
-pub returns-then-is_err-4 : goal.returns-then-is_err-4
-returns-then-is_err-4 c source forks is = unlogged source forks _ _ _ _ refl (search rules) (record {
+pub returns-then-is_err-4-clause-step : goal.returns-then-is_err-4-clause-step
+returns-then-is_err-4-clause-step c source forks is = unlogged source forks _ _ _ _ refl (search rules) (record {
   calls = search rules;
   later = omega arith;
   failed = λ e. cc e;
@@ -29,8 +29,8 @@ returns-then-is_err-4 c source forks is = unlogged source forks _ _ _ _ refl (se
   follows = record { contents = search rules; due = omega arith; in_turn = λ a b. cc b; same_source = refl; same_forks = refl };
 })
 
-pub returns-then-stands-3 : goal.returns-then-stands-3
-returns-then-stands-3 c source forks is = logged source forks _ _ _ _ (search rules) (record {
+pub returns-then-stands-3-clause-step : goal.returns-then-stands-3-clause-step
+returns-then-stands-3-clause-step c source forks is = logged source forks _ _ _ _ (search rules) (record {
   calls = search rules;
   later = omega arith;
   failed = λ e. cc e;
@@ -38,8 +38,8 @@ returns-then-stands-3 c source forks is = logged source forks _ _ _ _ (search ru
   follows = record { contents = (inr (search rules), search rules); due = omega arith; in_turn = λ a b. omega (arith, c.if-self-gt0.false); same_source = refl; same_forks = refl };
 })
 
-pub returns-else-stands-3 : goal.returns-else-stands-3
-returns-else-stands-3 c source forks is = logged source forks _ _ _ _ (search rules) (record {
+pub returns-else-stands-3-clause-step : goal.returns-else-stands-3-clause-step
+returns-else-stands-3-clause-step c source forks is = logged source forks _ _ _ _ (search rules) (record {
   calls = search rules;
   later = omega arith;
   failed = λ e. cc e;
