@@ -1,5 +1,5 @@
-//! What no contract says of signing, rows, the endorser, views, replies, clocks and cells: outside vectors,
-//! whole exchanges, that ample memory suffices, and what only running threads show.
+//! What no contract says of signing, rows, the endorser, stores, views, replies, clocks, cells and clients'
+//! passes: outside vectors, whole exchanges, that ample memory suffices, and what only running threads show.
 
 #![tactic(auto)]
 
@@ -14,6 +14,8 @@ mod endorsers;
 #[cfg(test)]
 mod hexadecimal;
 #[cfg(test)]
+mod passes;
+#[cfg(test)]
 mod replies;
 #[cfg(test)]
 mod rows;
@@ -21,5 +23,7 @@ mod rows;
 mod signed;
 #[cfg(test)]
 mod signing;
+#[cfg(test)]
+mod stores;
 #[cfg(test)]
 mod views;

@@ -1,7 +1,7 @@
 use crate::signed::{first, member, receipt, row};
 use chain_block::MetaBlock;
 use nim_base::{Digest, Nonce};
-use port::{LatestReply, Standing};
+use port::{LatestReply, Row, Standing};
 use seal::KeyBook;
 use statement::{Config, Statement};
 use std::alloc::Global;
@@ -42,130 +42,172 @@ fn reply(
     })
 }
 
-#[test]
-fn standing_replies_by_one_change_each(rt: HostRuntime) -> Result<(), Fail> {
-    let alloc = rt.alloc();
+/// A client, and a ledger of one entry in its view.
+struct Ledger {
+    client: Verifier<KeyBook>,
+    view: Digest,
+    handle: Digest,
+    tail: Digest,
+}
+
+fn ledger(alloc: Global) -> Result<Ledger, Fail> {
     let client = client(alloc)?;
     let view = client.chain().tail(0).unwrap_or(Digest::ZERO);
-    let own = first(alloc, 1)?;
-    let handle = own.handle();
-    let tail = MetaBlock {
+    let handle = first(alloc, 1)?.handle();
+    let block = MetaBlock {
         prev: Digest::ZERO,
         entry: handle,
         height: 0,
-    }
-    .tail();
-    let good = reply(alloc, handle, held(view, handle, tail, 1), &ALL)?;
-    assert_eq!(rt; client.check_at(&handle, 0, &good), Ok(()));
-    assert_eq!(rt; client.check_append(&own, &good), Ok(()));
-    let other = first(alloc, 2)?;
-    assert_eq!(rt;
-        client.check_append(&other, &good),
-        Err(ReplyFault::WrongHandle)
-    );
-    let nonce = Nonce([1; 16]);
-    let kind = Statement::Latest {
+    };
+    Ok(Ledger {
+        client,
         view,
         handle,
-        tail,
-        count: 1,
-        nonce,
-    };
+        tail: block.tail(),
+    })
+}
+
+/// What the client says of a reply to a read of the ledger at a height.
+fn at(
+    alloc: Global,
+    ledger: &Ledger,
+    height: u64,
+    entry: Digest,
+    statement: Statement,
+    signers: &[(u32, u32)],
+) -> Result<Result<(), ReplyFault>, Fail> {
+    let reply = reply(alloc, entry, statement, signers)?;
+    Ok(ledger.client.check_at(&ledger.handle, height, &reply))
+}
+
+#[test]
+fn standing_replies_are_taken(rt: HostRuntime) -> Result<(), Fail> {
+    let alloc = rt.alloc();
+    let ledger = ledger(alloc)?;
+    let statement = held(ledger.view, ledger.handle, ledger.tail, 1);
+    let seen = at(alloc, &ledger, 0, ledger.handle, statement, &ALL)?;
+    assert_eq!(rt; seen, Ok(()));
+    let good = reply(alloc, ledger.handle, statement, &ALL)?;
+    let own = first(alloc, 1)?;
+    assert_eq!(rt; ledger.client.check_append(&own, &good), Ok(()));
+    let other = first(alloc, 2)?;
     assert_eq!(rt;
-        client.check_at(&handle, 0, &reply(alloc, handle, kind, &ALL)?),
-        Err(ReplyFault::WrongKind)
-    );
-    let unknown = reply(alloc, handle, held(handle, handle, tail, 1), &ALL)?;
-    assert_eq!(rt;
-        client.check_at(&handle, 0, &unknown),
-        Err(ReplyFault::UnknownView)
-    );
-    let ledger = reply(alloc, handle, held(view, tail, tail, 1), &ALL)?;
-    assert_eq!(rt;
-        client.check_at(&handle, 0, &ledger),
+        ledger.client.check_append(&other, &good),
         Err(ReplyFault::WrongHandle)
-    );
-    let count = reply(alloc, handle, held(view, handle, tail, 2), &ALL)?;
-    assert_eq!(rt;
-        client.check_at(&handle, 0, &count),
-        Err(ReplyFault::WrongHeight)
-    );
-    assert_eq!(rt;
-        client.check_at(&handle, 1, &good),
-        Err(ReplyFault::WrongHeight)
-    );
-    let entry = reply(alloc, tail, held(view, handle, tail, 1), &ALL)?;
-    assert_eq!(rt;
-        client.check_at(&handle, 0, &entry),
-        Err(ReplyFault::WrongEntry)
-    );
-    let ends = reply(alloc, handle, held(view, handle, handle, 1), &ALL)?;
-    assert_eq!(rt;
-        client.check_at(&handle, 0, &ends),
-        Err(ReplyFault::WrongTail)
-    );
-    let few = reply(alloc, handle, held(view, handle, tail, 1), &ALL[..1])?;
-    let cause = ReceiptFault::Few { got: 1, need: 2 };
-    assert_eq!(rt;
-        client.check_at(&handle, 0, &few),
-        Err(ReplyFault::BadReceipt { cause })
     );
     Ok(())
 }
 
 #[test]
-fn latest_replies_by_one_change_each(rt: HostRuntime) -> Result<(), Fail> {
+fn other_statements_are_refused(rt: HostRuntime) -> Result<(), Fail> {
     let alloc = rt.alloc();
-    let client = client(alloc)?;
-    let view = client.chain().tail(0).unwrap_or(Digest::ZERO);
-    let handle = first(alloc, 1)?.handle();
-    let nonce = Nonce([1; 16]);
-    let none = Statement::Latest {
+    let ledger = ledger(alloc)?;
+    let (view, handle, tail) = (ledger.view, ledger.handle, ledger.tail);
+    let latest = Statement::Latest {
         view,
         handle,
-        tail: Digest::ZERO,
-        count: 0,
-        nonce,
-    };
-    let empty = LatestReply {
-        row: None,
-        receipt: receipt(alloc, none, &ALL)?,
-    };
-    assert_eq!(rt; client.check_latest(&handle, &nonce, &empty), Ok(0));
-    assert_eq!(rt;
-        client.check_latest(&handle, &Nonce([2; 16]), &empty),
-        Err(ReplyFault::WrongNonce)
-    );
-    let beside = LatestReply {
-        row: Some(row(alloc, 1, handle)?),
-        receipt: receipt(alloc, none, &ALL)?,
-    };
-    assert_eq!(rt;
-        client.check_latest(&handle, &nonce, &beside),
-        Err(ReplyFault::WrongHeight)
-    );
-    let one = Statement::Latest {
-        view,
-        handle,
-        tail: Digest::ZERO,
+        tail,
         count: 1,
-        nonce,
+        nonce: Nonce([1; 16]),
     };
-    let missing = LatestReply {
-        row: None,
-        receipt: receipt(alloc, one, &ALL)?,
+    let kind = at(alloc, &ledger, 0, handle, latest, &ALL)?;
+    assert_eq!(rt; kind, Err(ReplyFault::WrongKind));
+    let unknown = at(
+        alloc,
+        &ledger,
+        0,
+        handle,
+        held(handle, handle, tail, 1),
+        &ALL,
+    )?;
+    assert_eq!(rt; unknown, Err(ReplyFault::UnknownView));
+    let other = at(alloc, &ledger, 0, handle, held(view, tail, tail, 1), &ALL)?;
+    assert_eq!(rt; other, Err(ReplyFault::WrongHandle));
+    let count = at(alloc, &ledger, 0, handle, held(view, handle, tail, 2), &ALL)?;
+    assert_eq!(rt; count, Err(ReplyFault::WrongHeight));
+    Ok(())
+}
+
+#[test]
+fn other_rows_and_receipts_are_refused(rt: HostRuntime) -> Result<(), Fail> {
+    let alloc = rt.alloc();
+    let ledger = ledger(alloc)?;
+    let (handle, tail) = (ledger.handle, ledger.tail);
+    let statement = held(ledger.view, handle, tail, 1);
+    let height = at(alloc, &ledger, 1, handle, statement, &ALL)?;
+    assert_eq!(rt; height, Err(ReplyFault::WrongHeight));
+    let entry = at(alloc, &ledger, 0, tail, statement, &ALL)?;
+    assert_eq!(rt; entry, Err(ReplyFault::WrongEntry));
+    let ends = held(ledger.view, handle, handle, 1);
+    let ends = at(alloc, &ledger, 0, handle, ends, &ALL)?;
+    assert_eq!(rt; ends, Err(ReplyFault::WrongTail));
+    let few = at(alloc, &ledger, 0, handle, statement, &[(1, 1)])?;
+    let cause = ReceiptFault::Few { got: 1, need: 2 };
+    assert_eq!(rt; few, Err(ReplyFault::BadReceipt { cause }));
+    Ok(())
+}
+
+/// What the client says of a reply to a latest read with this nonce.
+fn latest(
+    alloc: Global,
+    ledger: &Ledger,
+    nonce: Nonce,
+    row: Option<Row>,
+    statement: Statement,
+) -> Result<Result<u64, ReplyFault>, Fail> {
+    let reply = LatestReply {
+        row,
+        receipt: receipt(alloc, statement, &ALL)?,
     };
-    assert_eq!(rt;
-        client.check_latest(&handle, &nonce, &missing),
-        Err(ReplyFault::WrongEntry)
-    );
-    let other_tail = LatestReply {
-        row: Some(row(alloc, 1, handle)?),
-        receipt: receipt(alloc, one, &ALL)?,
-    };
-    assert_eq!(rt;
-        client.check_latest(&handle, &nonce, &other_tail),
-        Err(ReplyFault::WrongTail)
-    );
+    Ok(ledger.client.check_latest(&ledger.handle, &nonce, &reply))
+}
+
+const DRAWN: Nonce = Nonce([1; 16]);
+
+fn counted(ledger: &Ledger, tail: Digest, count: u64) -> Statement {
+    Statement::Latest {
+        view: ledger.view,
+        handle: ledger.handle,
+        tail,
+        count,
+        nonce: DRAWN,
+    }
+}
+
+#[test]
+fn latest_replies_are_taken(rt: HostRuntime) -> Result<(), Fail> {
+    let alloc = rt.alloc();
+    let ledger = ledger(alloc)?;
+    let empty = counted(&ledger, Digest::ZERO, 0);
+    let none = latest(alloc, &ledger, DRAWN, None, empty)?;
+    assert_eq!(rt; none, Ok(0));
+    let own = row(alloc, 1, ledger.handle)?;
+    let one = latest(
+        alloc,
+        &ledger,
+        DRAWN,
+        Some(own),
+        counted(&ledger, ledger.tail, 1),
+    )?;
+    assert_eq!(rt; one, Ok(1));
+    let nonce = latest(alloc, &ledger, Nonce([2; 16]), None, empty)?;
+    assert_eq!(rt; nonce, Err(ReplyFault::WrongNonce));
+    Ok(())
+}
+
+#[test]
+fn other_newest_rows_are_refused(rt: HostRuntime) -> Result<(), Fail> {
+    let alloc = rt.alloc();
+    let ledger = ledger(alloc)?;
+    let empty = counted(&ledger, Digest::ZERO, 0);
+    let one = counted(&ledger, Digest::ZERO, 1);
+    let own = row(alloc, 1, ledger.handle)?;
+    let beside = latest(alloc, &ledger, DRAWN, Some(own), empty)?;
+    assert_eq!(rt; beside, Err(ReplyFault::WrongHeight));
+    let missing = latest(alloc, &ledger, DRAWN, None, one)?;
+    assert_eq!(rt; missing, Err(ReplyFault::WrongEntry));
+    let own = row(alloc, 1, ledger.handle)?;
+    let ends = latest(alloc, &ledger, DRAWN, Some(own), one)?;
+    assert_eq!(rt; ends, Err(ReplyFault::WrongTail));
     Ok(())
 }

@@ -76,10 +76,13 @@ fn next(
     })
 }
 
-#[test]
-fn views_by_one_change_each(rt: HostRuntime) -> Result<(), Fail> {
-    let alloc = rt.alloc();
-    let book = KeyBook::of_ids(alloc, &[1, 2, 3, 4, 5, 6, 7])?;
+/// A chain of one view of three, and who checks its marks.
+struct Chain {
+    views: ViewChain,
+    book: KeyBook,
+}
+
+fn chain(alloc: Global) -> Result<Chain, Fail> {
     let roster = [
         member(1),
         member(2),
@@ -88,36 +91,56 @@ fn views_by_one_change_each(rt: HostRuntime) -> Result<(), Fail> {
         member(5),
         member(6),
     ];
-    let config = Config::of(alloc, &roster[..3])?;
-    let mut chain = ViewChain::start(alloc, &config, &roster)?;
-    let first = chain.copy(alloc)?;
-    let linked = next(alloc, &chain, [4, 5, 6], 2, &[(1, 1), (3, 3)])?;
-    assert_eq!(rt; chain.extend(&book, &linked), Err(ViewFault::BadLink));
-    let forged = next(alloc, &chain, [4, 5, 6], 1, &[(1, 1), (3, 2)])?;
-    assert_eq!(rt;
-        chain.extend(&book, &forged),
-        Err(ViewFault::BadMark { id: 3 })
-    );
-    let few = next(alloc, &chain, [4, 5, 6], 1, &[(2, 2)])?;
-    assert_eq!(rt;
-        chain.extend(&book, &few),
-        Err(ViewFault::NoQuorum { got: 1, need: 2 })
-    );
-    let stranger = next(alloc, &chain, [4, 5, 7], 1, &[(1, 1), (3, 3)])?;
-    assert_eq!(rt;
-        chain.extend(&book, &stranger),
-        Err(ViewFault::NotGenuine { id: 7 })
-    );
-    assert_eq!(rt; chain.number(), 0);
-    let good = next(alloc, &chain, [4, 5, 6], 1, &[(1, 1), (3, 3)])?;
-    assert_eq!(rt; chain.extend(&book, &good), Ok(()));
-    assert_eq!(rt; chain.number(), 1);
-    assert_eq!(rt; chain.tail(1), Some(good.block.tail()));
-    assert_eq!(rt; chain.tail(2), None);
-    assert_eq!(rt; chain.config(1).is_some(), true);
-    assert_eq!(rt; chain.find(&good.block.tail()), Some(1));
-    assert_eq!(rt; first.number(), 0);
-    let outside = ViewChain::start(alloc, &config, &roster[1..]);
+    let config = Config::of(alloc, &[member(1), member(2), member(3)])?;
+    Ok(Chain {
+        views: ViewChain::start(alloc, &config, &roster)?,
+        book: KeyBook::of_ids(alloc, &[1, 2, 3, 4, 5, 6, 7])?,
+    })
+}
+
+/// What the chain says of a next view, which it takes where it can.
+fn extended(
+    alloc: Global,
+    chain: &mut Chain,
+    ids: [u32; 3],
+    number: u64,
+    signers: &[(u32, u32)],
+) -> Result<Result<(), ViewFault>, Fail> {
+    let next = next(alloc, &chain.views, ids, number, signers)?;
+    Ok(chain.views.extend(&chain.book, &next))
+}
+
+#[test]
+fn other_views_are_refused(rt: HostRuntime) -> Result<(), Fail> {
+    let alloc = rt.alloc();
+    let mut chain = chain(alloc)?;
+    let linked = extended(alloc, &mut chain, [4, 5, 6], 2, &[(1, 1), (3, 3)])?;
+    assert_eq!(rt; linked, Err(ViewFault::BadLink));
+    let forged = extended(alloc, &mut chain, [4, 5, 6], 1, &[(1, 1), (3, 2)])?;
+    assert_eq!(rt; forged, Err(ViewFault::BadMark { id: 3 }));
+    let few = extended(alloc, &mut chain, [4, 5, 6], 1, &[(2, 2)])?;
+    assert_eq!(rt; few, Err(ViewFault::NoQuorum { got: 1, need: 2 }));
+    let stranger = extended(alloc, &mut chain, [4, 5, 7], 1, &[(1, 1), (3, 3)])?;
+    assert_eq!(rt; stranger, Err(ViewFault::NotGenuine { id: 7 }));
+    assert_eq!(rt; chain.views.number(), 0);
+    let config = Config::of(alloc, &[member(1), member(2)])?;
+    let outside = ViewChain::start(alloc, &config, &[member(2)]);
     assert_eq!(rt; outside.err(), Some(ViewFault::NotGenuine { id: 1 }));
+    Ok(())
+}
+
+#[test]
+fn a_view_that_follows_is_taken(rt: HostRuntime) -> Result<(), Fail> {
+    let alloc = rt.alloc();
+    let mut chain = chain(alloc)?;
+    let first = chain.views.copy(alloc)?;
+    let good = next(alloc, &first, [4, 5, 6], 1, &[(1, 1), (3, 3)])?;
+    assert_eq!(rt; chain.views.extend(&chain.book, &good), Ok(()));
+    assert_eq!(rt; chain.views.number(), 1);
+    assert_eq!(rt; chain.views.tail(1), Some(good.block.tail()));
+    assert_eq!(rt; chain.views.tail(2), None);
+    assert_eq!(rt; chain.views.config(1).is_some(), true);
+    assert_eq!(rt; chain.views.find(&good.block.tail()), Some(1));
+    assert_eq!(rt; first.number(), 0);
     Ok(())
 }
