@@ -43,6 +43,7 @@ fn reply(
 }
 
 /// A client, and a ledger of one entry in its view.
+#[derive(Drop)]
 struct Ledger {
     client: Verifier<KeyBook>,
     view: Digest,
@@ -50,7 +51,7 @@ struct Ledger {
     tail: Digest,
 }
 
-fn ledger(alloc: Global) -> Result<Ledger, Fail> {
+fn one_entry(alloc: Global) -> Result<Ledger, Fail> {
     let client = client(alloc)?;
     let view = client.chain().tail(0).unwrap_or(Digest::ZERO);
     let handle = first(alloc, 1)?.handle();
@@ -83,7 +84,7 @@ fn at(
 #[test]
 fn standing_replies_are_taken(rt: HostRuntime) -> Result<(), Fail> {
     let alloc = rt.alloc();
-    let ledger = ledger(alloc)?;
+    let ledger = one_entry(alloc)?;
     let statement = held(ledger.view, ledger.handle, ledger.tail, 1);
     let seen = at(alloc, &ledger, 0, ledger.handle, statement, &ALL)?;
     assert_eq!(rt; seen, Ok(()));
@@ -101,7 +102,7 @@ fn standing_replies_are_taken(rt: HostRuntime) -> Result<(), Fail> {
 #[test]
 fn other_statements_are_refused(rt: HostRuntime) -> Result<(), Fail> {
     let alloc = rt.alloc();
-    let ledger = ledger(alloc)?;
+    let ledger = one_entry(alloc)?;
     let (view, handle, tail) = (ledger.view, ledger.handle, ledger.tail);
     let latest = Statement::Latest {
         view,
@@ -131,7 +132,7 @@ fn other_statements_are_refused(rt: HostRuntime) -> Result<(), Fail> {
 #[test]
 fn other_rows_and_receipts_are_refused(rt: HostRuntime) -> Result<(), Fail> {
     let alloc = rt.alloc();
-    let ledger = ledger(alloc)?;
+    let ledger = one_entry(alloc)?;
     let (handle, tail) = (ledger.handle, ledger.tail);
     let statement = held(ledger.view, handle, tail, 1);
     let height = at(alloc, &ledger, 1, handle, statement, &ALL)?;
@@ -177,7 +178,7 @@ fn counted(ledger: &Ledger, tail: Digest, count: u64) -> Statement {
 #[test]
 fn latest_replies_are_taken(rt: HostRuntime) -> Result<(), Fail> {
     let alloc = rt.alloc();
-    let ledger = ledger(alloc)?;
+    let ledger = one_entry(alloc)?;
     let empty = counted(&ledger, Digest::ZERO, 0);
     let none = latest(alloc, &ledger, DRAWN, None, empty)?;
     assert_eq!(rt; none, Ok(0));
@@ -198,7 +199,7 @@ fn latest_replies_are_taken(rt: HostRuntime) -> Result<(), Fail> {
 #[test]
 fn other_newest_rows_are_refused(rt: HostRuntime) -> Result<(), Fail> {
     let alloc = rt.alloc();
-    let ledger = ledger(alloc)?;
+    let ledger = one_entry(alloc)?;
     let empty = counted(&ledger, Digest::ZERO, 0);
     let one = counted(&ledger, Digest::ZERO, 1);
     let own = row(alloc, 1, ledger.handle)?;

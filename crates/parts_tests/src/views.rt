@@ -77,12 +77,13 @@ fn next(
 }
 
 /// A chain of one view of three, and who checks its marks.
+#[derive(Drop)]
 struct Chain {
     views: ViewChain,
     book: KeyBook,
 }
 
-fn chain(alloc: Global) -> Result<Chain, Fail> {
+fn one_view(alloc: Global) -> Result<Chain, Fail> {
     let roster = [
         member(1),
         member(2),
@@ -113,7 +114,7 @@ fn extended(
 #[test]
 fn other_views_are_refused(rt: HostRuntime) -> Result<(), Fail> {
     let alloc = rt.alloc();
-    let mut chain = chain(alloc)?;
+    let mut chain = one_view(alloc)?;
     let linked = extended(alloc, &mut chain, [4, 5, 6], 2, &[(1, 1), (3, 3)])?;
     assert_eq!(rt; linked, Err(ViewFault::BadLink));
     let forged = extended(alloc, &mut chain, [4, 5, 6], 1, &[(1, 1), (3, 2)])?;
@@ -132,7 +133,7 @@ fn other_views_are_refused(rt: HostRuntime) -> Result<(), Fail> {
 #[test]
 fn a_view_that_follows_is_taken(rt: HostRuntime) -> Result<(), Fail> {
     let alloc = rt.alloc();
-    let mut chain = chain(alloc)?;
+    let mut chain = one_view(alloc)?;
     let first = chain.views.copy(alloc)?;
     let good = next(alloc, &first, [4, 5, 6], 1, &[(1, 1), (3, 3)])?;
     assert_eq!(rt; chain.views.extend(&chain.book, &good), Ok(()));
