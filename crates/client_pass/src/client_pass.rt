@@ -1,9 +1,9 @@
-ghost use Rattle.std.specs.Prelude.{◌≡◌, ◌≢◌, ◌↔◌, ◌+◌, ◌-◌, ◌<◌, ◌++◌, ◌∷◌, [], ℕ, List, length, None, Some, Ok, Err, IfOk, IfErr, IfSome, IfNone, OnOk, OnErr, option_map, option_copied};
+ghost use Rattle.std.specs.Prelude.{◌≡◌, ◌≢◌, ◌↔◌, ◌-◌, ◌<◌, [], ℕ, List, length, Ok, Err, IfOk, IfSome, IfNone, OnOk, OnErr, option_map, option_copied};
 ghost use Rattle.std.specs.List.Sorted.{IsStrictlyIncreasing};
 ghost use Rattle.std.specs.Result.{result_err};
 ghost use Rattle.chain_block.specs.declared.entry.Entry.{Entry};
 ghost use Rattle.chain_block.specs.Entry.{bare, nonce_of, IsWithinLimits};
-ghost use Rattle.stamp_clock.specs.Stamps.{stamps};
+ghost use Rattle.stamp_clock.specs.Stamps.{stamps, times};
 ghost use Rattle.view_ledger.specs.Extension.{extend_outcome};
 ghost use Rattle.verifier.specs.Outcomes.{append_outcome, at_outcome, latest_outcome};
 ghost use Rattle.client_pass.specs.declared.take_fault.TakeFault.TheVariants.{Again};
@@ -11,7 +11,6 @@ ghost use Rattle.client_pass.specs.Act.{act_of, Draw, Append, Latest, At, Look, 
 ghost use Rattle.client_pass.specs.ClientList.{IsForEntry, IsForRead, IsAnswered, IsClientList, IsDone, answered, chain_after, answered_by, chain_of, stamps_of};
 ghost use Rattle.client_pass.specs.Answers.{IfReplyNoted, IfViewNoted, IfNotNoted};
 ghost use Rattle.client_pass.specs.ClientPass.{Notes};
-ghost use Rattle.stamp_clock.specs.Stamps.{times};
 
 use crate::answer::{answer_by, view_answer_by};
 use crate::checks::{append_fault, at_fault, copied, latest_count, view_fault};
@@ -26,8 +25,8 @@ use seal::Checker;
 use stamp_clock::{Clock, ClockName, Pass};
 use std::alloc::Global;
 use std::marker::Model;
-use verifier::{ReplyFault, Verifier};
-use view_ledger::{ViewChain, ViewFault};
+use verifier::Verifier;
+use view_ledger::ViewChain;
 
 /// A client's verifier, the lines of what it did from the first on, and the pass that draws the stamps of
 /// these lines.

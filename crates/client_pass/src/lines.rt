@@ -1,4 +1,4 @@
-ghost use Rattle.std.specs.Prelude.{◌≡◌, ◌↔◌, ◌+◌, ◌-◌, ◌<◌, ◌≤◌, ◌++◌, ◌∷◌, [], ℕ, length, slice_get, Some, IsTrue, IfSome, IfOk, OnOk, OnErr, option_map, option_copied, vec_len, vec_capacity};
+ghost use Rattle.std.specs.Prelude.{◌≡◌, ◌↔◌, ◌+◌, ◌-◌, ◌<◌, ◌≤◌, ◌++◌, ◌∷◌, [], length, Some, IsTrue, IfSome, OnOk, vec_len, vec_capacity};
 ghost use Rattle.stamp_clock.specs.Stamps.{times};
 ghost use Rattle.client_pass.specs.Act.{act_of, line, IsWithin};
 ghost use Rattle.client_pass.specs.Lines.{marked};
