@@ -1,5 +1,5 @@
 -- What counts as a fault of a store in memory.
-use Rattle.std.specs.Prelude.{◌≡◌, ◌⊎◌, ℕ, ◌+◌, true, Option, Some, None, IsSome}
+use Rattle.std.specs.Prelude.{◌≡◌, ◌⊎◌, ℕ, ◌+◌, true, Some, None, IsSome}
 use Rattle.port.specs.declared.store_answers.Put.TheVariants as puts
 use Rattle.port.specs.declared.store_answers.Got.TheVariants as gots
 use Rattle.port.specs.Contents.{Contents}

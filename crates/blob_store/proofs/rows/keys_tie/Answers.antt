@@ -1,10 +1,9 @@
-use Rattle.std.proofs.Common.{◌≡◌, refl, sym, ◌==◌, Bool, ◌&&◌}
+use Rattle.std.proofs.Common.{refl, sym, ◌==◌}
 use Rattle.std.specs.Prelude.{bytes_eq}
 use Rattle.std.specs.Cmp.{both_tied, unsigned_tied, unsigned_ties}
 use Rattle.std.specs.Cmp.Lexicographic.{slice_cmp}
 use Rattle.std.specs.Ordering.{nat_cmp}
 use Rattle.std.proofs.lemmas.Map.Text.{is_eq-slice_cmp}
-use Rattle.port.specs.declared.key.Key.{Key}
 use Rattle.port.specs.declared.key.Key.TheVariants.{Row, View, Finals}
 use Rattle.blob_store.proofs.rows.keys_tie.Goals as goal
 

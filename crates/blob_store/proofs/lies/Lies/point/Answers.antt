@@ -1,4 +1,3 @@
-use Rattle.std.proofs.Common.{◌≡◌, refl, sym}
 use Rattle.blob_store.proofs.KeyMap.{pointed}
 use Rattle.blob_store.proofs.lies.Lies.point.Goals as goal
 

@@ -1,4 +1,4 @@
-use Rattle.std.proofs.Common.{◌≡◌, refl, sym}
+use Rattle.std.proofs.Common.{refl}
 use Rattle.blob_store.specs.Lies.{source_of, forks_of}
 use Rattle.blob_store.proofs.Calls.{lied}
 use Rattle.blob_store.proofs.lying_store.LyingStoreStore.attach.Goals as goal

@@ -1,4 +1,4 @@
-use Rattle.std.proofs.Common.{◌≡◌, refl}
+use Rattle.std.proofs.Common.{refl}
 use Rattle.blob_store.specs.Memory.{memory_view}
 use Rattle.blob_store.specs.MemStore.{itself, never}
 use Rattle.blob_store.specs.declared.mem_store.MemStore.{MemStore}

@@ -1,5 +1,5 @@
-use Rattle.std.proofs.Common.{◌≡◌, refl, sym, ap, ◌∙◌, inl, inr, rules, arith}
-use Rattle.blob_store.proofs.Calls.{logged, unlogged}
+use Rattle.std.proofs.Common.{refl, rules, arith}
+use Rattle.blob_store.proofs.Calls.{logged}
 use Rattle.blob_store.proofs.memory.Memory.get.Goals as goal
 
 pub returns-then-self-gt0-clause-step : goal.returns-then-self-gt0-clause-step

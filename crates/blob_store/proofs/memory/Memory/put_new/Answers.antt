@@ -1,4 +1,4 @@
-use Rattle.std.proofs.Common.{◌≡◌, refl, sym, ap, ◌∙◌, inl, inr, rules, arith}
+use Rattle.std.proofs.Common.{refl, inl, inr, rules, arith}
 use Rattle.blob_store.proofs.Calls.{logged, unlogged}
 use Rattle.blob_store.proofs.memory.Memory.put_new.Goals as goal
 

@@ -1,7 +1,3 @@
-use Rattle.std.proofs.Common.{◌≡◌, refl, sym, ap, ◌∙◌, Bool, cond, List}
-use Rattle.std.proofs.Math.Path.{fun_ext}
-use Rattle.std.specs.Prelude.{Option, Some}
-use Rattle.std.specs.Ordering.{is_eq}
 use Rattle.blob_store.proofs.KeyMap.{set_key}
 use Rattle.blob_store.proofs.rows.Rows.set.Goals as goal
 
