@@ -42,16 +42,16 @@ impl LyingStore {
     }
 
     /// Tells the store to lie so from now on. Of the lies for gets of one key the latest alone holds.
-    pub fn lie(&mut self, lie: &Lie) -> Result<(), NoMemory>
-        ensures source { OnOk result ((held_in self.new).source ≡ source_after (held_in self.old).source lie.now) }
-        ensures forks { OnOk result ((held_in self.new).forks ≡ forks_after (held_in self.old).forks lie.now) }
+    pub fn lie(&mut self, lie: Lie) -> Result<(), NoMemory>
+        ensures source { OnOk result ((held_in self.new).source ≡ source_after (held_in self.old).source lie) }
+        ensures forks { OnOk result ((held_in self.new).forks ≡ forks_after (held_in self.old).forks lie) }
         ensures same_source { OnErr result ((held_in self.new).source ≡ (held_in self.old).source) }
         ensures same_forks { OnErr result ((held_in self.new).forks ≡ (held_in self.old).forks) }
         ensures held { (held_in self.new).contents ≡ (held_in self.old).contents }
         ensures due { (held_in self.new).due ≡ (held_in self.old).due }
         ensures stays { Stays lying_view self.old self.new }
     {
-        self.lies.add(lie)
+        self.lies.add(&lie)
     }
 
     /// Ends all lies. What stands stays, and so do failures that are still to come.
