@@ -85,10 +85,11 @@ fn at(
 fn standing_replies_are_taken(rt: HostRuntime) -> Result<(), Fail> {
     let alloc = rt.alloc();
     let ledger = one_entry(alloc)?;
-    let statement = held(ledger.view, ledger.handle, ledger.tail, 1);
-    let seen = at(alloc, &ledger, 0, ledger.handle, statement, &ALL)?;
+    let (view, handle, tail) = (ledger.view, ledger.handle, ledger.tail);
+    let statement = held(view, handle, tail, 1);
+    let seen = at(alloc, &ledger, 0, handle, statement, &ALL)?;
     assert_eq!(rt; seen, Ok(()));
-    let good = reply(alloc, ledger.handle, statement, &ALL)?;
+    let good = reply(alloc, handle, statement, &ALL)?;
     let own = first(alloc, 1)?;
     assert_eq!(rt; ledger.client.check_append(&own, &good), Ok(()));
     let other = first(alloc, 2)?;
@@ -133,13 +134,13 @@ fn other_statements_are_refused(rt: HostRuntime) -> Result<(), Fail> {
 fn other_rows_and_receipts_are_refused(rt: HostRuntime) -> Result<(), Fail> {
     let alloc = rt.alloc();
     let ledger = one_entry(alloc)?;
-    let (handle, tail) = (ledger.handle, ledger.tail);
-    let statement = held(ledger.view, handle, tail, 1);
+    let (view, handle, tail) = (ledger.view, ledger.handle, ledger.tail);
+    let statement = held(view, handle, tail, 1);
     let height = at(alloc, &ledger, 1, handle, statement, &ALL)?;
     assert_eq!(rt; height, Err(ReplyFault::WrongHeight));
     let entry = at(alloc, &ledger, 0, tail, statement, &ALL)?;
     assert_eq!(rt; entry, Err(ReplyFault::WrongEntry));
-    let ends = held(ledger.view, handle, handle, 1);
+    let ends = held(view, handle, handle, 1);
     let ends = at(alloc, &ledger, 0, handle, ends, &ALL)?;
     assert_eq!(rt; ends, Err(ReplyFault::WrongTail));
     let few = at(alloc, &ledger, 0, handle, statement, &[(1, 1)])?;
@@ -179,17 +180,13 @@ fn counted(ledger: &Ledger, tail: Digest, count: u64) -> Statement {
 fn latest_replies_are_taken(rt: HostRuntime) -> Result<(), Fail> {
     let alloc = rt.alloc();
     let ledger = one_entry(alloc)?;
+    let (handle, tail) = (ledger.handle, ledger.tail);
     let empty = counted(&ledger, Digest::ZERO, 0);
     let none = latest(alloc, &ledger, DRAWN, None, empty)?;
     assert_eq!(rt; none, Ok(0));
-    let own = row(alloc, 1, ledger.handle)?;
-    let one = latest(
-        alloc,
-        &ledger,
-        DRAWN,
-        Some(own),
-        counted(&ledger, ledger.tail, 1),
-    )?;
+    let own = row(alloc, 1, handle)?;
+    let newest = counted(&ledger, tail, 1);
+    let one = latest(alloc, &ledger, DRAWN, Some(own), newest)?;
     assert_eq!(rt; one, Ok(1));
     let nonce = latest(alloc, &ledger, Nonce([2; 16]), None, empty)?;
     assert_eq!(rt; nonce, Err(ReplyFault::WrongNonce));
@@ -200,14 +197,15 @@ fn latest_replies_are_taken(rt: HostRuntime) -> Result<(), Fail> {
 fn other_newest_rows_are_refused(rt: HostRuntime) -> Result<(), Fail> {
     let alloc = rt.alloc();
     let ledger = one_entry(alloc)?;
+    let handle = ledger.handle;
     let empty = counted(&ledger, Digest::ZERO, 0);
     let one = counted(&ledger, Digest::ZERO, 1);
-    let own = row(alloc, 1, ledger.handle)?;
+    let own = row(alloc, 1, handle)?;
     let beside = latest(alloc, &ledger, DRAWN, Some(own), empty)?;
     assert_eq!(rt; beside, Err(ReplyFault::WrongHeight));
     let missing = latest(alloc, &ledger, DRAWN, None, one)?;
     assert_eq!(rt; missing, Err(ReplyFault::WrongEntry));
-    let own = row(alloc, 1, ledger.handle)?;
+    let own = row(alloc, 1, handle)?;
     let ends = latest(alloc, &ledger, DRAWN, Some(own), one)?;
     assert_eq!(rt; ends, Err(ReplyFault::WrongTail));
     Ok(())
