@@ -96,14 +96,14 @@ abbrev pub appends : View → List ℕ → List ℕ → List ℕ → ℕ → Lis
 appends own handle prev entry height tail count =
     if nat_lt count height then refuses (Active own) (Behind count)
     else (if nat_lt height count then
-        (if (count == height + 1) && bytes_eq tail (tail_after prev entry height) then signs_held own own handle tail count
-        else refuses (Active own) (Stands count tail))
+    (if (count == height + 1) && bytes_eq tail (tail_after prev entry height) then signs_held own own handle tail count
+    else refuses (Active own) (Stands count tail))
     else (if not (bytes_eq tail prev) then refuses (Active own) (OtherTail tail)
     else (if (height == 0) && not (bytes_eq entry handle) then refuses (Active own) NotGenesis
     else (if height == 2 ^ 32 then refuses (Active own) Tall
     else (if not (has_handle own.map handle) && (length own.map == 4096) then refuses (Active own) Full
     else (let row : TailRow = record { handle = handle; tail = tail_after prev entry height; count = height + 1 } in
-        signs_held own (record own { map = set own.map row }) handle row.tail row.count))))))
+    signs_held own (record own { map = set own.map row }) handle row.tail row.count))))))
 
 -- Latest while Active, where the ledger has this tail and count
 abbrev pub reads : View → List ℕ → List ℕ → List ℕ → ℕ → Cell

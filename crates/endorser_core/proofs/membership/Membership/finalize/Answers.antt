@@ -10,4 +10,4 @@ use Rattle.endorser_core.proofs.membership.Membership.finalize.Goals as goal
 pub returns-in-Finalized-clause-lacks : goal.returns-in-Finalized-clause-lacks
 returns-in-Finalized-clause-lacks c =
     on_err c.finalize_again.result _ _ c.finalize_again.ensures.lacks
-      (λ again me left. subst (λ (stage : Stage). MayLack left (cell me (state_at stage (view_of c.args.self.now)) (Finalize c.args.config.now c.args.number))) (sym c.in-Finalized.is) (again left))
+    (λ again me left. subst (λ (stage : Stage). MayLack left (cell me (state_at stage (view_of c.args.self.now)) (Finalize c.args.config.now c.args.number))) (sym c.in-Finalized.is) (again left))
