@@ -245,26 +245,35 @@ fn handle_of(number: u64) -> Digest {
     digest_of(&number.to_be_bytes())
 }
 
-/// How many of the first appends to so many ledgers are signed, with count 1 and the ledger's own tail.
+/// Whether the first append to this ledger is signed, with count 1 and the ledger's own tail.
+fn begins(
+    alloc: Global,
+    endorser: &mut Endorser<MacScheme>,
+    handle: Digest,
+) -> Result<bool, NoMemory> {
+    let held = Seen::Signed(Statement::Held {
+        view: digest(VIEW),
+        handle,
+        tail: tail_of(&Digest::ZERO, &handle, 0),
+        count: 1,
+    });
+    let answer = step(alloc, endorser, &append(handle, Digest::ZERO, handle, 0))?;
+    Ok(answer == held)
+}
+
+/// In how many of the first ledgers an entry begins.
 fn begin_ledgers(
     alloc: Global,
     endorser: &mut Endorser<MacScheme>,
     ledgers: u64,
 ) -> Result<u64, NoMemory> {
-    let mut signed = 0u64;
+    let mut begun = 0u64;
     for number in 0..ledgers {
-        let handle = handle_of(number);
-        let held = Seen::Signed(Statement::Held {
-            view: digest(VIEW),
-            handle,
-            tail: tail_of(&Digest::ZERO, &handle, 0),
-            count: 1,
-        });
-        if step(alloc, endorser, &append(handle, Digest::ZERO, handle, 0))? == held {
-            signed = signed.saturating_add(1);
+        if begins(alloc, endorser, handle_of(number))? {
+            begun = begun.saturating_add(1);
         }
     }
-    Ok(signed)
+    Ok(begun)
 }
 
 #[test]

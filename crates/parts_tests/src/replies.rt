@@ -86,10 +86,9 @@ fn standing_replies_are_taken(rt: HostRuntime) -> Result<(), Fail> {
     let alloc = rt.alloc();
     let ledger = one_entry(alloc)?;
     let (view, handle, tail) = (ledger.view, ledger.handle, ledger.tail);
-    let statement = held(view, handle, tail, 1);
-    let seen = at(alloc, &ledger, 0, handle, statement, &ALL)?;
+    let seen = at(alloc, &ledger, 0, handle, held(view, handle, tail, 1), &ALL)?;
     assert_eq!(rt; seen, Ok(()));
-    let good = reply(alloc, handle, statement, &ALL)?;
+    let good = reply(alloc, handle, held(view, handle, tail, 1), &ALL)?;
     let own = first(alloc, 1)?;
     assert_eq!(rt; ledger.client.check_append(&own, &good), Ok(()));
     let other = first(alloc, 2)?;
@@ -135,15 +134,21 @@ fn other_rows_and_receipts_are_refused(rt: HostRuntime) -> Result<(), Fail> {
     let alloc = rt.alloc();
     let ledger = one_entry(alloc)?;
     let (view, handle, tail) = (ledger.view, ledger.handle, ledger.tail);
-    let statement = held(view, handle, tail, 1);
-    let height = at(alloc, &ledger, 1, handle, statement, &ALL)?;
+    let height = at(alloc, &ledger, 1, handle, held(view, handle, tail, 1), &ALL)?;
     assert_eq!(rt; height, Err(ReplyFault::WrongHeight));
-    let entry = at(alloc, &ledger, 0, tail, statement, &ALL)?;
+    let entry = at(alloc, &ledger, 0, tail, held(view, handle, tail, 1), &ALL)?;
     assert_eq!(rt; entry, Err(ReplyFault::WrongEntry));
     let ends = held(view, handle, handle, 1);
     let ends = at(alloc, &ledger, 0, handle, ends, &ALL)?;
     assert_eq!(rt; ends, Err(ReplyFault::WrongTail));
-    let few = at(alloc, &ledger, 0, handle, statement, &[(1, 1)])?;
+    let few = at(
+        alloc,
+        &ledger,
+        0,
+        handle,
+        held(view, handle, tail, 1),
+        &[(1, 1)],
+    )?;
     let cause = ReceiptFault::Few { got: 1, need: 2 };
     assert_eq!(rt; few, Err(ReplyFault::BadReceipt { cause }));
     Ok(())
@@ -188,6 +193,7 @@ fn latest_replies_are_taken(rt: HostRuntime) -> Result<(), Fail> {
     let newest = counted(&ledger, tail, 1);
     let one = latest(alloc, &ledger, DRAWN, Some(own), newest)?;
     assert_eq!(rt; one, Ok(1));
+    let empty = counted(&ledger, Digest::ZERO, 0);
     let nonce = latest(alloc, &ledger, Nonce([2; 16]), None, empty)?;
     assert_eq!(rt; nonce, Err(ReplyFault::WrongNonce));
     Ok(())
@@ -199,13 +205,14 @@ fn other_newest_rows_are_refused(rt: HostRuntime) -> Result<(), Fail> {
     let ledger = one_entry(alloc)?;
     let handle = ledger.handle;
     let empty = counted(&ledger, Digest::ZERO, 0);
-    let one = counted(&ledger, Digest::ZERO, 1);
     let own = row(alloc, 1, handle)?;
     let beside = latest(alloc, &ledger, DRAWN, Some(own), empty)?;
     assert_eq!(rt; beside, Err(ReplyFault::WrongHeight));
+    let one = counted(&ledger, Digest::ZERO, 1);
     let missing = latest(alloc, &ledger, DRAWN, None, one)?;
     assert_eq!(rt; missing, Err(ReplyFault::WrongEntry));
     let own = row(alloc, 1, handle)?;
+    let one = counted(&ledger, Digest::ZERO, 1);
     let ends = latest(alloc, &ledger, DRAWN, Some(own), one)?;
     assert_eq!(rt; ends, Err(ReplyFault::WrongTail));
     Ok(())

@@ -504,7 +504,8 @@ fn views_are_copied(rt: HostRuntime) -> Result<(), Fail> {
     let alloc = rt.alloc();
     let copy = view_row(alloc)?.copy(alloc)?;
     assert_eq!(rt; copy.block, block(alloc)?);
-    assert_eq!(rt; copy.finals[0].sig.bytes(), [3, 4].as_slice());
+    let mark = copy.finals.get(0).expect(&rt, "no mark");
+    assert_eq!(rt; mark.sig.bytes(), [3, 4].as_slice());
     Ok(())
 }
 
@@ -514,6 +515,7 @@ fn proofs_are_copied(rt: HostRuntime) -> Result<(), Fail> {
     let copy = proof(alloc)?.copy(alloc)?;
     assert_eq!(rt; copy.old_block, block(alloc)?);
     assert_eq!(rt; copy.finals.len(), 2);
-    assert_eq!(rt; copy.chains[0].handle, Digest([3; 32]));
+    let chain = copy.chains.get(0).expect(&rt, "no chain");
+    assert_eq!(rt; chain.handle, Digest([3; 32]));
     Ok(())
 }
