@@ -5,7 +5,7 @@ use crate::endorser_calls::{
 use crate::signing::{Counted, CountedScheme, OfOneByte};
 use chain_block::tail_of;
 use endorser_core::Endorser;
-use nim_base::{Digest, NoMemory, digest_of};
+use nim_base::{Digest, digest_of};
 use port::{EndorserAnswer, EndorserCall, Phase, ProofCause};
 use seal::MacScheme;
 use statement::{Member, Statement};
@@ -245,44 +245,18 @@ fn handle_of(number: u64) -> Digest {
     digest_of(&number.to_be_bytes())
 }
 
-/// Whether the first append to this ledger is signed, with count 1 and the ledger's own tail.
-fn begins(
-    alloc: Global,
-    endorser: &mut Endorser<MacScheme>,
-    handle: Digest,
-) -> Result<bool, NoMemory> {
-    let held = Seen::Signed(Statement::Held {
-        view: digest(VIEW),
-        handle,
-        tail: tail_of(&Digest::ZERO, &handle, 0),
-        count: 1,
-    });
-    let answer = step(alloc, endorser, &append(handle, Digest::ZERO, handle, 0))?;
-    Ok(answer == held)
-}
-
-/// In how many of the first ledgers an entry begins.
-fn begin_ledgers(
-    alloc: Global,
-    endorser: &mut Endorser<MacScheme>,
-    ledgers: u64,
-) -> Result<u64, NoMemory> {
-    let mut begun = 0u64;
-    for number in 0..ledgers {
-        if begins(alloc, endorser, handle_of(number))? {
-            begun = begun.saturating_add(1);
-        }
-    }
-    Ok(begun)
-}
-
 #[test]
 fn full(rt: HostRuntime) -> Result<(), Fail> {
     let alloc = rt.alloc();
-    let mut endorser = active(alloc)?;
-    assert_eq!(rt; begin_ledgers(alloc, &mut endorser, 4096)?, 4096);
-    let (first, last, next) = (handle_of(0), handle_of(4095), handle_of(4096));
     let zero = Digest::ZERO;
+    let mut endorser = active(alloc)?;
+    for number in 0..4096 {
+        let handle = handle_of(number);
+        let call = append(handle, zero, handle, 0);
+        let answer = held(handle, tail_of(&zero, &handle, 0), 1);
+        assert_eq!(rt; step(alloc, &mut endorser, &call)?, answer, "{number}");
+    }
+    let (first, last, next) = (handle_of(0), handle_of(4095), handle_of(4096));
     let tail = tail_of(&zero, &first, 0);
     for (call, answer) in [
         (append(next, zero, next, 0), Seen::Full),
@@ -291,19 +265,14 @@ fn full(rt: HostRuntime) -> Result<(), Fail> {
         (append(next, zero, next, 1), Seen::Behind(0)),
         (show(next), Seen::Shown(Phase::Active, 0, zero, 0)),
         (show(first), Seen::Shown(Phase::Active, 0, tail, 1)),
+        (append(first, zero, first, 0), held(first, tail, 1)),
     ] {
         assert_eq!(rt; step(alloc, &mut endorser, &call)?, answer);
     }
-    assert_eq!(rt; begin_ledgers(alloc, &mut endorser, 1)?, 1);
     let tail = tail_of(&zero, &last, 0);
-    let answer = step(alloc, &mut endorser, &append(last, tail, first, 1))?;
-    let two = Seen::Signed(Statement::Held {
-        view: digest(VIEW),
-        handle: last,
-        tail: tail_of(&tail, &first, 1),
-        count: 2,
-    });
-    assert_eq!(rt; answer, two);
+    let call = append(last, tail, first, 1);
+    let answer = held(last, tail_of(&tail, &first, 1), 2);
+    assert_eq!(rt; step(alloc, &mut endorser, &call)?, answer);
     Ok(())
 }
 
