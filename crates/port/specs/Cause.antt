@@ -6,6 +6,7 @@ use Rattle.statement.specs.declared.statement.Statement.{Statement}
 use Rattle.statement.specs.declared.statement.Statement.TheVariants as statements
 use Rattle.port.specs.declared.key.Key.{Key}
 use Rattle.port.specs.declared.key.Key.TheVariants as keys
+use Rattle.port.specs.declared.store_answers.Put.TheVariants as puts
 use Rattle.port.specs.declared.store_answers.Got.TheVariants as gots
 use Rattle.port.specs.declared.reason.Reason.{Reason}
 use Rattle.port.specs.declared.reason.Reason.TheVariants as reasons
@@ -16,7 +17,7 @@ use Rattle.port.specs.Answer.{Denial, Answer, Signed, Refused, HasEnded, Stands,
 use Rattle.port.specs.Heard.{Answered, Lost}
 use Rattle.port.specs.Reply.{Standing}
 use Rattle.port.specs.Stored.{Stored}
-use Rattle.port.specs.Store.{StoreCall, Get, StoreAnswer, WasGot, is_failed}
+use Rattle.port.specs.Store.{StoreCall, PutNew, Get, StoreAnswer, WasPut, WasGot, is_failed}
 use Rattle.port.specs.Trace.{Event, AtStore, AtLink, Had}
 
 -- why a member doesn't count: lost; its refusal; a count and a tail
@@ -86,6 +87,13 @@ IsMemberShown events id (Denied denial) = HadAnswer events id (Refused denial)
 IsMemberShown events id (OtherTail count tail) =
     (answer : Answer) × HadAnswer events id answer × (HasSignedCount answer tail count ⊎ ((count ≡ 0) × (tail ≡ replicate 32 0)))
 
+-- What shows in some calls that something stands at the key: a put there that was answered so. What ended a view stands
+-- where the view is marked as complete, which the chain may have told.
+abbrev pub IsToldToStand : List Event → Key → Type 0
+IsToldToStand events (keys.Row handle height) = (body : List ℕ) × Had events (AtStore (PutNew (keys.Row handle height) body) (WasPut puts.Taken))
+IsToldToStand events (keys.View number) = (body : List ℕ) × Had events (AtStore (PutNew (keys.View number) body) (WasPut puts.Taken))
+IsToldToStand events (keys.Finals number) = Unit {0}
+
 -- What shows in some calls that they were refused for this cause. What stands, which id was used before and how much is
 -- needed is read off the chain and the rows, and not off one call.
 abbrev pub IsShown : List Event → Cause → Type 0
@@ -94,7 +102,7 @@ IsShown events (NoQuorum need reasons) = AllByRecursion (λ (r : ℕ × MemberCa
 IsShown events (ViewMoved from id statement sig) = HadAnswer events id (Refused (HasEnded statement sig))
 IsShown events StoreFault = (call : StoreCall) × (answer : StoreAnswer) × Had events (AtStore call answer) × (is_failed answer ≡ true)
 IsShown events (BadRow key (Some bytes)) = (stored : Stored) × Had events (AtStore (Get key) (WasGot (gots.Some stored))) × (stored.body ≡ bytes)
-IsShown events (BadRow key None) = Had events (AtStore (Get key) (WasGot gots.None))
+IsShown events (BadRow key None) = Had events (AtStore (Get key) (WasGot gots.None)) × IsToldToStand events key
 IsShown events (Contended member first later) = (first < later) × ((answer : Answer) × HadAnswer events member answer × TellsCount answer later)
 IsShown events (Full member) = HadAnswer events member (Refused MapFull)
 IsShown events (Conflict standing) = Unit {0}

@@ -6,6 +6,7 @@ pub mod Answer
 pub mod Table
 pub mod Field
 pub mod RowForm
+pub mod GoodRow
 pub mod ViewForm
 pub mod FinalsForm
 pub mod Finding

@@ -1,9 +1,10 @@
-ghost use Rattle.std.specs.Prelude.{◌≡◌, ◌↔◌, ◌⊎◌, length, Ok, Err, IsTrue, IfOk, IfErr, OnOk};
+ghost use Rattle.std.specs.Prelude.{◌≡◌, ◌↔◌, ◌⊎◌, length, Ok, Err, None, IsTrue, IfOk, IfErr, IfSome, OnOk};
 ghost use Rattle.nim_base.specs.declared.form_fault.FormFault.{FormFault};
 ghost use Rattle.chain_block.specs.Entry.{IsWithinLimits, bare, entry_bytes, entry_digest, handle_of, height_of, nonce_of};
 ghost use Rattle.statement.specs.FormFault.{Gives};
 ghost use Rattle.port.specs.Row.{Content};
 ghost use Rattle.port.specs.RowForm.{IsStored, IsRow, row_bytes, RowShows};
+ghost use Rattle.port.specs.GoodRow.{IsRowAt, IsGoodRow, IsBadRow};
 
 use crate::row_reading::read_whole;
 use chain_block::{Entry, MetaBlock, entries_have_own_bytes, metablocks_have_own_bytes};
@@ -106,6 +107,38 @@ impl Row {
         entries_have_own_bytes();
         metablocks_have_own_bytes();
         read_whole(alloc, bytes)
+    }
+
+    /// Whether the row is this ledger's at this height: its entry has them, and its metablock has the digest of
+    /// the entry and the height. What it links to isn't looked at.
+    pub fn is_at(&self, handle: &Digest, height: u64) -> bool
+        ensures { IsTrue result ↔ IsRowAt handle.now height self.now }
+    {
+        self.handle() == *handle
+            && self.height() == height
+            && self.metablock.entry == self.entry_digest()
+            && self.metablock.height == height
+    }
+
+    /// The row of this ledger at this height whose bytes these are. `None` says that they are those of no such row.
+    pub fn read_at(
+        alloc: Global,
+        handle: &Digest,
+        height: u64,
+        bytes: &[u8],
+    ) -> Result<Option<Row>, NoMemory>
+        ensures good { IfOk result (λ found. IfSome found (IsGoodRow handle.now height bytes.now)) }
+        ensures bad { result ≡ Ok None → IsBadRow handle.now height bytes.now }
+    {
+        match Row::read(alloc, bytes) {
+            Ok(row) => Ok(if row.is_at(handle, height) {
+                Some(row)
+            } else {
+                None
+            }),
+            Err(FormFault::NoMemory) => Err(NoMemory),
+            Err(_) => Ok(None),
+        }
     }
 
     /// The same row in memory of its own.
