@@ -1,6 +1,6 @@
 ghost use Rattle.std.specs.Prelude.{◌≡◌, ◌≤◌, ◌++◌, [], length};
-ghost use Rattle.port.specs.Answer.{answer_of, denial_of};
-ghost use Rattle.endorser_core.specs.LineAnswer.{kept, kept_of};
+ghost use Rattle.port.specs.Answer.{answer_of, denial_of, kept};
+ghost use Rattle.endorser_core.specs.LineAnswer.{kept_of};
 ghost use Rattle.endorser_core.specs.Shown.{sig_size};
 ghost use Rattle.port.specs.Answer.{Refused};
 

@@ -3,11 +3,10 @@ use Rattle.std.proofs.Common.{◌≡◌, ◌≢◌, ℕ, ◌≤◌, Bool, true, 
 use Rattle.std.specs.Prelude.{max, Result, Ok, Err, IfOk, OnErr}
 use Rattle.statement.specs.declared.statement.Statement.{Statement}
 use Rattle.statement.specs.Statement.{statement_bytes}
-use Rattle.port.specs.Answer.{Answer, Signed, Refused, Spent, LogFull}
+use Rattle.port.specs.Answer.{Answer, Signed, Refused, Spent, LogFull, kept}
 use Rattle.port.specs.Call.{Call}
 use Rattle.port.specs.Table.{State, Cell, Answers, Signs, asked, cell, outcome}
 use Rattle.endorser_core.specs.Shown.{kept_size, sig_size}
-use Rattle.endorser_core.specs.LineAnswer.{kept}
 use Rattle.endorser_core.specs.Line.{sig_of, IsAccepted, IsLawfulAt, line, state_after}
 use Rattle.endorser_core.specs.Endorser.{Endorser, HasSigned, Steps, me}
 use Rattle.endorser_core.proofs.Cells.{SetLaw, Good, good}

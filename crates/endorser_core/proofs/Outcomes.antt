@@ -5,10 +5,9 @@ use Rattle.statement.specs.declared.member.Member.{Member}
 use Rattle.statement.specs.declared.statement.Statement.{Statement}
 use Rattle.statement.specs.declared.statement.Statement.TheVariants.{Held}
 use Rattle.port.specs.Call.{Call}
-use Rattle.port.specs.Answer.{Answer, Done, Signed, Finaled, Shown, Refused}
+use Rattle.port.specs.Answer.{Answer, Done, Signed, Finaled, Shown, Refused, kept}
 use Rattle.port.specs.Table.{View, State, Uninitialized, Active, Cell, Answers, Signs, cell, outcome}
 use Rattle.endorser_core.specs.Shown.{row_of, kept_size, sig_size}
-use Rattle.endorser_core.specs.LineAnswer.{kept}
 use Rattle.endorser_core.specs.Line.{Line, sig_of, state_after, replay_from, IsLawfulAt, IsLawfulFrom}
 use Rattle.endorser_core.specs.Laws.{rank, count_of, IsSignedIn}
 use Rattle.endorser_core.proofs.Cells.{SetLaw, Keeps, OneMore, IsHeldAt, IsUnsigned, Quiet, Signing, Good, good, stays, one_stays}

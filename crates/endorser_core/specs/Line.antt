@@ -4,9 +4,8 @@ use Rattle.statement.specs.declared.member.Member.{Member}
 use Rattle.statement.specs.declared.statement.Statement.{Statement}
 use Rattle.statement.specs.Statement.{statement_bytes}
 use Rattle.port.specs.Call.{Call}
-use Rattle.port.specs.Answer.{Answer, Done, Signed, Finaled, Shown, Refused}
+use Rattle.port.specs.Answer.{Answer, Done, Signed, Finaled, Shown, Refused, kept}
 use Rattle.port.specs.Table.{State, Uninitialized, cell, asked, outcome}
-use Rattle.endorser_core.specs.LineAnswer.{kept}
 
 -- a stamp, what was asked, and what is kept of the answer
 pub record Line : Type 0 where

@@ -1,16 +1,8 @@
--- What a line keeps of an answer.
-use Rattle.std.specs.Prelude.{ℕ, List, []}
+-- What a line's answer is to a contract: what is kept of an endorser's answer.
+use Rattle.std.specs.Prelude.{[]}
 use Rattle.port.specs.Answer.{Answer, Done, Signed, Finaled, Shown, Refused, denial_of}
 use Rattle.endorser_core.specs.declared.cell_answer.CellAnswer.{CellAnswer}
 use Rattle.endorser_core.specs.declared.cell_answer.CellAnswer.TheVariants as answers
-
--- the answer with no rows in a Finaled
-abbrev pub kept : Answer → Answer
-kept Done = Done
-kept (Signed statement sig) = Signed statement sig
-kept (Finaled statement sig map) = Finaled statement sig []
-kept (Shown phase number tail count) = Shown phase number tail count
-kept (Refused denial) = Refused denial
 
 abbrev pub kept_of : CellAnswer → Answer
 kept_of answers.Done = Done

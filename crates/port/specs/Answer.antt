@@ -1,5 +1,5 @@
 -- What an endorser answers: what contracts see of it.
-use Rattle.std.specs.Prelude.{ℕ, List}
+use Rattle.std.specs.Prelude.{ℕ, List, []}
 use Rattle.tail_map.specs.declared.tail_row.TailRow.{TailRow}
 use Rattle.statement.specs.declared.statement.Statement.{Statement}
 use Rattle.port.specs.declared.phase.Phase.{Phase}
@@ -56,3 +56,11 @@ answer_of (answers.Signed statement sig) = Signed statement sig.bytes
 answer_of (answers.Finaled statement sig map) = Finaled statement sig.bytes map.rows
 answer_of (answers.Shown phase number tail count) = Shown phase number tail count
 answer_of (answers.Refused refusal) = Refused (denial_of refusal)
+
+-- what is kept of an answer in a list of calls: all but the rows in a Finaled, which the calls before it give
+abbrev pub kept : Answer → Answer
+kept Done = Done
+kept (Signed statement sig) = Signed statement sig
+kept (Finaled statement sig map) = Finaled statement sig []
+kept (Shown phase number tail count) = Shown phase number tail count
+kept (Refused denial) = Refused denial

@@ -5,7 +5,7 @@ use Rattle.statement.specs.declared.statement.Statement.{Statement}
 use Rattle.statement.specs.Statement.{statement_bytes}
 use Rattle.port.specs.Count.{next}
 use Rattle.port.specs.Call.{Call}
-use Rattle.port.specs.Answer.{Answer, Refused, LogFull}
+use Rattle.port.specs.Answer.{Answer, Refused, LogFull, kept}
 use Rattle.port.specs.Heard.{Heard, Answered, Lost, NoMemory}
 use Rattle.port.specs.Table.{State, cell, asked, outcome}
 
@@ -24,7 +24,7 @@ Bank = ℕ → Option Told
 abbrev pub put_told : Bank → ℕ → Told → Bank
 put_told bank id told = λ other. if other == id then Some told else bank other
 
--- an endorser served a call: its id, what was asked, and what it answered
+-- an endorser served a call: its id, what was asked, and what is kept of its answer
 pub record Served : Type 0 where
   pub id : ℕ
   pub call : Call
@@ -76,7 +76,7 @@ IsFaithful signs bank id call NoMemory after = after ≡ bank
 -- the calls that were served, and this one; an endorser whose list is full serves none
 abbrev pub served_after : List Served → ℕ → Call → Answer → List Served
 served_after past id call (Refused LogFull) = past
-served_after past id call answer = record { id = id; call = call; answer = answer } ∷ past
+served_after past id call answer = record { id = id; call = call; answer = kept answer } ∷ past
 
 -- what was served where this was heard
 abbrev pub IsServing : List Served → ℕ → Call → Heard → List Served → Type 0
