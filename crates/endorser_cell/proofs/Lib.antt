@@ -1,1 +1,7 @@
 pub mod Lines
+pub mod Cells
+pub mod Served
+pub mod Banks
+pub mod Counts
+pub mod LinkSteps
+pub mod RawCalls

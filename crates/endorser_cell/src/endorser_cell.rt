@@ -1,4 +1,4 @@
-ghost use Rattle.std.specs.Prelude.{◌≡◌, ◌+◌, ◌<◌, ◌≤◌, ◌↔◌, [], Ok, IfOk, OnErr};
+ghost use Rattle.std.specs.Prelude.{◌≡◌, ◌+◌, ◌<◌, ◌≤◌, ◌↔◌, [], max, Ok, IfOk, OnErr};
 ghost use Rattle.std.specs.List.Sorted.{IsStrictlyIncreasing};
 ghost use Rattle.port.specs.Call.{call_of};
 ghost use Rattle.port.specs.Answer.{answer_of};
@@ -7,9 +7,10 @@ ghost use Rattle.port.specs.declared.endorser_answer.EndorserAnswer.TheVariants.
 ghost use Rattle.port.specs.declared.endorser_refusal.EndorserRefusal.TheVariants.{LogFull};
 ghost use Rattle.stamp_clock.specs.Stamps.{stamps};
 ghost use Rattle.endorser_core.specs.Endorser.{Steps};
-ghost use Rattle.endorser_cell.specs.EndorserCell.{AddsLine, EndorserCell, IsLawfulOf, LeadsTo, stamps_of};
+ghost use Rattle.endorser_core.specs.Shown.{kept_size, sig_size};
 
 use crate::line_answer::line_answer;
+use crate::losses::Losses;
 use endorser_core::{CellLine, Endorser, lines_go_on};
 use nim_base::{NoMemory, Text};
 use port::{EndorserAnswer, EndorserCall, EndorserRefusal};
@@ -27,6 +28,7 @@ pub struct EndorserCell<G: Scheme, K: ClockName> {
     endorser: Endorser<G>,
     lines: Vec<CellLine>,
     pass: Pass<K>,
+    losses: Losses,
 }
 
 impl<G: Scheme, K: ClockName> Model for EndorserCell<G, K> {
@@ -36,7 +38,7 @@ impl<G: Scheme, K: ClockName> Model for EndorserCell<G, K> {
 
     ghost Value = { EndorserCell G.Signer G.Checker };
 
-    ghost view = { λ cell. record { endorser = cell.endorser; lines = cell.lines.items; left = cell.pass.left } };
+    ghost view = { λ cell. record { endorser = cell.endorser; lines = cell.lines.items; left = cell.pass.left; losses = cell.losses } };
 
     ghost invariant = { λ cell. IsLawfulOf G.Signer.key_of G.Checker.accepts cell.endorser cell.lines.items
         × LeadsTo G.Signer.key_of cell.lines.items cell.endorser
@@ -51,22 +53,30 @@ impl<G: Scheme, K: ClockName> Drop for EndorserCell<G, K> {
             endorser: _,
             lines: _,
             pass: _,
+            losses: _,
         } = self;
     }
 }
 
 impl<G: Scheme, K: ClockName> EndorserCell<G, K> {
+    ghost use Rattle.endorser_cell.specs.Losses.{IsNone};
+    ghost use Rattle.endorser_cell.specs.EndorserCell.{AddsLine, EndorserCell, IsLawfulOf, LeadsTo, stamps_of};
+
     /// The cell of an endorser that has no view yet. It takes no memory.
     pub fn new(alloc: Global, endorser: Endorser<G>, pass: Pass<K>) -> EndorserCell<G, K>
         requires uninitialized { endorser.state ≡ Uninitialized }
         requires fits { G.fits endorser.signer endorser.checker }
         requires undrawn { pass.drawn ≡ [] }
-        ensures { result ≡ record { endorser = endorser; lines = []; left = pass.left } }
+        ensures endorser { result.endorser ≡ endorser }
+        ensures lines { result.lines ≡ [] }
+        ensures left { result.left ≡ pass.left }
+        ensures lossless { IsNone result.losses }
     {
         EndorserCell {
             endorser,
             lines: Vec::new(alloc),
             pass,
+            losses: Losses::none(),
         }
     }
 
@@ -99,6 +109,11 @@ impl<G: Scheme, K: ClockName> EndorserCell<G, K> {
         ensures same_size { G.Signer.size_of self.new.endorser.signer ≡ G.Signer.size_of self.old.endorser.signer }
         ensures one { G.Signer.left_of self.old.endorser.signer ≤ G.Signer.left_of self.new.endorser.signer + 1 }
         ensures no_more { G.Signer.left_of self.new.endorser.signer ≤ G.Signer.left_of self.old.endorser.signer }
+        ensures same_losses { self.new.losses ≡ self.old.losses }
+
+        // The checker fits the signer, and a signature in the answer has a length that is known before.
+        ensures fits { G.fits self.old.endorser.signer self.old.endorser.checker }
+        ensures size { IfOk result (λ answer. sig_size (answer_of answer) ≤ max (G.Signer.size_of self.old.endorser.signer) (kept_size self.old.endorser.state)) }
     {
         if self.pass.left() == 0 {
             return Ok(EndorserAnswer::Refused(EndorserRefusal::LogFull));
@@ -136,6 +151,18 @@ impl<G: Scheme, K: ClockName> EndorserCell<G, K> {
         &self.endorser
     }
 
+    pub(crate) fn losses(&self) -> Losses
+        ensures { result ≡ self.now.losses }
+    {
+        self.losses
+    }
+
+    pub(crate) fn set_losses(&mut self, losses: Losses)
+        ensures { self.new ≡ record self.old { losses = losses } }
+    {
+        self.losses = losses;
+    }
+
     /// The lines of all calls, and the pass that drew their stamps.
     pub fn take(self) -> (Vec<CellLine>, Pass<K>)
         ensures lines { result.0.items ≡ self.lines }
@@ -149,6 +176,7 @@ impl<G: Scheme, K: ClockName> EndorserCell<G, K> {
             endorser: _,
             lines,
             pass,
+            losses: _,
         } = self;
         (lines, pass)
     }
