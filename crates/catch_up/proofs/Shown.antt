@@ -1,21 +1,21 @@
 -- Laws of the calls of a catch-up, and of what its answers say.
-use Rattle.std.proofs.Common.{◌≡◌, ◌⊎◌, inl, inr, ℕ, ◌+◌, ◌<◌, ◌==◌, Bool, true, false, if◌then◌else◌, List, [], ◌∷◌, ◌++◌, Some, refl, sym, ◌∙◌, subst, ap, arith, replicate}
+use Rattle.std.proofs.Common.{◌≡◌, inl, inr, ℕ, ◌<◌, List, [], ◌∷◌, ◌++◌, Some, refl, sym, subst, ap}
 use Rattle.statement.specs.declared.statement.Statement.{Statement}
 use Rattle.statement.specs.declared.statement.Statement.TheVariants as statements
 use Rattle.port.specs.declared.key.Key.TheVariants as keys
 use Rattle.port.specs.declared.store_answers.Got.TheVariants as gots
-use Rattle.port.specs.Answer.{Answer, Signed, Refused, Stands, Behind}
+use Rattle.port.specs.Answer.{Answer, Signed, Refused, Stands}
 use Rattle.port.specs.Call.{Call, Append}
 use Rattle.port.specs.Cause.{HadAnswer, HasCount, TellsCount, IsMemberShown, IsShown, MemberCause, WasLost, Denied, OtherTail, Cause, StoreFault, Gap, BadRow}
 use Rattle.port.specs.GoodRow.{IsGoodRow}
-use Rattle.port.specs.Heard.{Heard, Answered, Lost, NoMemory}
+use Rattle.port.specs.Heard.{Heard, Answered, Lost}
 use Rattle.port.specs.Row.{Content}
 use Rattle.port.specs.Stored.{Stored}
 use Rattle.port.specs.Store.{StoreCall, StoreAnswer, Get, WasGot}
 use Rattle.port.specs.Trace.{Event, AtStore, AtLink, Had}
 use Rattle.catch_up.specs.State.{Target}
-use Rattle.catch_up.specs.Told.{count_of, count_in, newer, told}
-use Rattle.catch_up.specs.OwnCalls.{Gave, JustGave, IsOwnCall, OwnCalls, append_of}
+use Rattle.catch_up.specs.Told.{count_of, told}
+use Rattle.catch_up.specs.OwnCalls.{JustGave, IsOwnCall, OwnCalls, append_of}
 use Rattle.catch_up.specs.Answers.{ComesTo, IsReason}
 use Rattle.catch_up.specs.Says.{DidCome, IsRowRefused}
 

@@ -1,6 +1,6 @@
 -- What one more call makes of a catch-up.
-use Rattle.std.proofs.Common.{◌≡◌, ℕ, ◌<◌, ◌==◌, ◌-◌, ◌*◌, Bool, true, false, if◌then◌else◌, List, [], ◌∷◌, Some, refl, sym, subst, ap, arith, rules}
-use Rattle.std.specs.Prelude.{Result, Ok, Err}
+use Rattle.std.proofs.Common.{◌≡◌, ℕ, ◌<◌, ◌==◌, ◌-◌, ◌*◌, true, List, ◌∷◌, refl, sym, subst, ap, arith, rules}
+use Rattle.std.specs.Prelude.{Result}
 use Rattle.chain_block.specs.declared.meta_block.MetaBlock.{MetaBlock}
 use Rattle.nim_base.specs.declared.no_memory.NoMemory.{NoMemory}
 use Rattle.port.specs.declared.key.Key.TheVariants as keys
@@ -8,17 +8,16 @@ use Rattle.port.specs.declared.store_answers.Got.{Got}
 use Rattle.port.specs.Answer.{Answer, Signed, Refused, Stands}
 use Rattle.port.specs.Call.{Call}
 use Rattle.port.specs.Heard.{Heard, Answered}
-use Rattle.port.specs.Row.{Content}
 use Rattle.port.specs.Store.{StoreAnswer, Get, WasGot}
 use Rattle.port.specs.Trace.{Event, AtStore, AtLink}
 use Rattle.catch_up.specs.declared.progress.Progress.{Progress}
 use Rattle.catch_up.specs.declared.stage.Stage.{Stage}
 use Rattle.catch_up.specs.declared.stage.Stage.TheVariants as stages
 use Rattle.catch_up.specs.State.{Target, State, calls_left_at}
-use Rattle.catch_up.specs.Told.{newer, count_in, told}
-use Rattle.catch_up.specs.OwnCalls.{JustGave, Gave, HasCome, append_of}
+use Rattle.catch_up.specs.Told.{told}
+use Rattle.catch_up.specs.OwnCalls.{Gave, HasCome, append_of}
 use Rattle.catch_up.specs.Answers.{ComesTo}
-use Rattle.catch_up.specs.Says.{Says, DidCome}
+use Rattle.catch_up.specs.Says.{Says}
 use Rattle.catch_up.specs.Sound.{Sound, IsAt, Leads, GoesOn, Takes}
 
 -- a number is itself

@@ -1,5 +1,5 @@
 -- What a turn makes of a catch-up.
-use Rattle.std.proofs.Common.{◌≡◌, ℕ, ◌<◌, refl, sym, subst, arith}
+use Rattle.std.proofs.Common.{ℕ, sym, subst, arith}
 use Rattle.std.specs.Prelude.{Result, Ok, Err, IfOk}
 use Rattle.nim_base.specs.declared.no_memory.NoMemory.{NoMemory}
 use Rattle.port.specs.Trace.{Event}

@@ -1,6 +1,5 @@
 -- Which calls a catch-up has made.
 use Rattle.std.specs.Prelude.{◌≡◌, ◌↔◌, ◌<◌, ℕ, true, List, ◌∷◌, Result, Ok}
-use Rattle.chain_block.specs.declared.meta_block.MetaBlock.{MetaBlock}
 use Rattle.nim_base.specs.declared.no_memory.NoMemory.{NoMemory}
 use Rattle.port.specs.Row.{Content}
 use Rattle.port.specs.Trace.{Event}

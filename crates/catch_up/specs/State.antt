@@ -1,6 +1,5 @@
 -- What contracts see of a catch-up.
-use Rattle.std.specs.Prelude.{ℕ, ◌+◌, ◌-◌, ◌*◌, ◌<◌, Bool, true, false, List}
-use Rattle.chain_block.specs.declared.meta_block.MetaBlock.{MetaBlock}
+use Rattle.std.specs.Prelude.{ℕ, ◌-◌, ◌*◌, ◌<◌, Bool, true, false, List}
 use Rattle.catch_up.specs.declared.stage.Stage.{Stage}
 use Rattle.catch_up.specs.declared.stage.Stage.TheVariants.{Get, Append, Ended}
 

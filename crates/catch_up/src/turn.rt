@@ -26,6 +26,7 @@ pub struct Turn {
 }
 
 impl Turn {
+    // The end.
     fn end(progress: Progress) -> Turn
         ensures { result ≡ record { stage = Stage.Ended; progress = progress } }
     {
@@ -35,7 +36,7 @@ impl Turn {
         }
     }
 
-    /// What the store gave for the row of the ledger at the height.
+    /// By what the store gave for the row of the ledger at the height.
     pub fn of_row(alloc: Global, handle: &Digest, height: u64, got: Got) -> Result<Turn, NoMemory>
         ensures { (member count : ℕ) → height < count → Turns (target member handle.now count) height (AtStore (Get (RowKey handle.now height)) (WasGot got)) result }
     {
@@ -82,7 +83,7 @@ impl Turn {
         }
     }
 
-    /// What was heard of the append at the height, which is below the wanted count.
+    /// By what was heard of the append at the height, which is below the wanted count.
     pub fn of_heard(wanted: u64, height: u64, heard: LinkAnswer) -> Result<Turn, NoMemory>
         requires { height < wanted }
         ensures { (member : ℕ) (handle : List ℕ) (call : Call) → Turns (target member handle wanted) height (AtLink member call (heard_of heard)) result }
@@ -137,7 +138,7 @@ impl Turn {
         }
     }
 
-    // The member has come to this count.
+    // Of a member that has come to this count.
     fn at_count(wanted: u64, count: u64) -> Turn
         requires { count ≤ wanted }
         ensures reached { count ≡ wanted → result ≡ record { stage = Stage.Ended; progress = Progress.Reached } }
@@ -152,6 +153,7 @@ impl Turn {
         }
     }
 
+    // Of a member that didn't come further.
     fn refused(refusal: EndorserRefusal) -> Turn
         ensures { result ≡ record { stage = Stage.Ended; progress = Progress.Member (Reason.Refused refusal) } }
     {
@@ -160,7 +162,7 @@ impl Turn {
         })
     }
 
-    // The answer is none to what was asked.
+    // Of a member whose answer is none to what was asked.
     fn out_of_place() -> Turn
         ensures { result ≡ record { stage = Stage.Ended; progress = Progress.Member (Reason.Other 0 (replicate 32 0)) } }
     {

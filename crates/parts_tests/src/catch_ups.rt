@@ -2,7 +2,7 @@ ghost use Rattle.std.specs.Prelude.{◌≡◌, ◌==◌, ◌-◌, ◌^◌, ◌�
 ghost use Rattle.catch_up.specs.State.{is_live};
 ghost use Rattle.chain_block.specs.Entry.{IsWithinLimits};
 
-use crate::endorser_calls::{Seen, active, digest, refusal_seen};
+use crate::endorser_calls::{active, digest};
 use blob_store::{Lie, LyingStore, MemStore};
 use catch_up::{CatchUp, Progress};
 use chain_block::{Entry, MetaBlock};
@@ -126,7 +126,7 @@ enum Ending {
     Reached,
     Ahead(u64, Digest),
     Lost,
-    Refused(Seen),
+    Refused,
     OutOfPlace,
     StoreFault,
     Gap(Digest, u64),
@@ -141,7 +141,7 @@ fn ending_of(progress: &Progress) -> Ending {
         Progress::Ahead { count, tail } => Ending::Ahead(*count, *tail),
         Progress::Member { reason } => match reason {
             Reason::Lost => Ending::Lost,
-            Reason::Refused { refusal } => Ending::Refused(refusal_seen(refusal)),
+            Reason::Refused { .. } => Ending::Refused,
             Reason::Other { .. } => Ending::OutOfPlace,
         },
         Progress::Row { refusal } => match refusal {
@@ -217,23 +217,41 @@ fn a_row_that_is_not_to_be_had_has_its_cause(rt: HostRuntime) -> Result<(), Fail
     };
     let handle = digest(HANDLE);
     let catch_up = CatchUp::new(1, &handle, 0, 4);
-    assert_eq!(rt; finish(alloc, catch_up, &mut store, &mut way)?, (7, Ending::Gap(handle, 3)));
+    assert_eq!(rt;
+        finish(alloc, catch_up, &mut store, &mut way)?,
+        (7, Ending::Gap(handle, 3))
+    );
     let catch_up = CatchUp::new(2, &handle, 0, 4);
-    assert_eq!(rt; finish(alloc, catch_up, &mut store, &mut way)?, (2, Ending::Lost));
+    assert_eq!(rt;
+        finish(alloc, catch_up, &mut store, &mut way)?,
+        (2, Ending::Lost)
+    );
     store.lie(Lie::Hide { key: key(1) })?;
     let catch_up = CatchUp::new(1, &handle, 1, 3);
-    assert_eq!(rt; finish(alloc, catch_up, &mut store, &mut way)?, (1, Ending::Gap(handle, 1)));
+    assert_eq!(rt;
+        finish(alloc, catch_up, &mut store, &mut way)?,
+        (1, Ending::Gap(handle, 1))
+    );
     store.lie(Lie::Stale {
         key: key(1),
         from: key(0),
     })?;
     let catch_up = CatchUp::new(1, &handle, 1, 3);
-    assert_eq!(rt; finish(alloc, catch_up, &mut store, &mut way)?, (1, Ending::BadRow(key(1))));
+    assert_eq!(rt;
+        finish(alloc, catch_up, &mut store, &mut way)?,
+        (1, Ending::BadRow(key(1)))
+    );
     store.honest();
     store.fail_next(1);
     let catch_up = CatchUp::new(1, &handle, 1, 3);
-    assert_eq!(rt; finish(alloc, catch_up, &mut store, &mut way)?, (1, Ending::StoreFault));
+    assert_eq!(rt;
+        finish(alloc, catch_up, &mut store, &mut way)?,
+        (1, Ending::StoreFault)
+    );
     let catch_up = CatchUp::new(1, &handle, 1, 3);
-    assert_eq!(rt; finish(alloc, catch_up, &mut store, &mut way)?, (2, Ending::Reached));
+    assert_eq!(rt;
+        finish(alloc, catch_up, &mut store, &mut way)?,
+        (2, Ending::Reached)
+    );
     Ok(())
 }

@@ -1,4 +1,4 @@
-use Rattle.std.proofs.Common.{ap, refl}
+use Rattle.std.proofs.Common.{ap}
 use Rattle.port.specs.Answer.{Refused, denial_of}
 use Rattle.port.specs.Heard.{Answered}
 use Rattle.port.specs.Trace.{AtLink}

@@ -1,4 +1,4 @@
-use Rattle.std.proofs.Common.{ap, sym, subst}
+use Rattle.std.proofs.Common.{sym, subst}
 use Rattle.port.specs.declared.store_answers.Got.{Got}
 use Rattle.port.specs.declared.key.Key.TheVariants as keys
 use Rattle.port.specs.Store.{Get, WasGot}
