@@ -6,6 +6,8 @@
 #[cfg(test)]
 mod banks;
 #[cfg(test)]
+mod catch_ups;
+#[cfg(test)]
 mod cells;
 #[cfg(test)]
 mod clocks;
