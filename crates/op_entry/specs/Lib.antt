@@ -1,0 +1,5 @@
+pub mod RefreshState
+pub mod Refresh
+pub mod RefreshSays
+pub mod RefreshTurn
+pub mod RefreshSound
