@@ -1,3 +1,4 @@
+pub mod Attachment
 pub mod RefreshState
 pub mod Refresh
 pub mod RefreshSays

@@ -5,9 +5,11 @@
 
 #![tactic(auto)]
 
+mod attachment;
 mod refresh;
 mod refresh_stage;
 mod refresh_turn;
 
+pub use attachment::{Head, accepted_receipt};
 pub use refresh::Refresh;
 pub use refresh_turn::RefreshProgress;
