@@ -1,4 +1,4 @@
-ghost use Rattle.std.specs.Prelude.{◌≡◌, ◌↔◌, ◌⊎◌, ◌+◌, ◌++◌, ◌∷◌, [], ℕ, length, slice_get, option_copied, Some, None, Ok, Err, IfOk, IfErr, IfSome, OnOk, OnErr};
+ghost use Rattle.std.specs.Prelude.{◌≡◌, ◌↔◌, ◌⊎◌, ◌+◌, ◌^◌, ◌<◌, ◌++◌, ◌∷◌, [], ℕ, length, slice_get, option_copied, Some, None, Ok, Err, IfOk, IfErr, IfSome, OnOk, OnErr};
 ghost use Rattle.statement.specs.Statement.{view_of};
 ghost use Rattle.view_ledger.specs.declared.receipt_fault.ReceiptFault.TheVariants.{UnknownView};
 ghost use Rattle.view_ledger.specs.declared.view_fault.ViewFault.{ViewFault};
@@ -134,9 +134,10 @@ impl ViewChain {
         }
     }
 
-    /// The number of the newest view.
+    /// The number of the newest view, which has a next one.
     pub fn number(&self) -> u64
-        ensures { result + 1 ≡ length self.now.configs }
+        ensures number { result + 1 ≡ length self.now.configs }
+        ensures next { result + 1 < 2 ^ 64 }
     {
         self.views.len() as u64 - 1
     }

@@ -1,0 +1,6 @@
+pub mod Attachment
+pub mod RefreshState
+pub mod Refresh
+pub mod RefreshSays
+pub mod RefreshTurn
+pub mod RefreshSound
