@@ -13,4 +13,6 @@ mod maps;
 #[cfg(test)]
 mod outside;
 #[cfg(test)]
+mod scripts;
+#[cfg(test)]
 mod statements;

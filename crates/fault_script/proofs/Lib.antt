@@ -1,3 +1,4 @@
 mod Numbers
 mod Rising
 mod Names
+mod Adding

@@ -1,5 +1,5 @@
 -- Maps and sets whose keys are seen as bytes, after one entry more.
-use Rattle.std.proofs.Common.{◌≡◌, ◌∙◌, refl, sym, ap, subst, Bool, true, false, cond, ◌||◌, ℕ, List, [], ◌∷◌, Option, Some}
+use Rattle.std.proofs.Common.{◌≡◌, ◌∙◌, refl, sym, ap, Bool, true, false, cond, ◌||◌, ℕ, List, [], ◌∷◌, Option, Some}
 use Rattle.std.specs.List.{list_any}
 use Rattle.std.specs.declared.cmp.Ordering.{Ordering}
 use Rattle.std.specs.declared.cmp.Ordering.TheVariants.{Less, Equal, Greater}
@@ -7,7 +7,7 @@ use Rattle.std.specs.Ordering.{match_ordering, nat_cmp, is_eq}
 use Rattle.std.specs.Cmp.Lexicographic.{slice_cmp}
 use Rattle.std.specs.Str.{bytes_eq}
 use Rattle.std.specs.Map.{lookup}
-use Rattle.std.specs.BTreeMap.{is_at, insert_entry}
+use Rattle.std.specs.BTreeMap.{insert_entry}
 use Rattle.std.specs.BTreeSet.{insert_key}
 use Rattle.std.proofs.lemmas.Map.Text.{is_eq-slice_cmp}
 use Rattle.std.proofs.lemmas.Slice.Eq.{bytes_eq-Decides}
@@ -81,11 +81,11 @@ module _ {K : Type 0} (bytes : K → List ℕ) where
         ap (λ o. cond (finds q e.0) (Some e.1) o) h
         ∙ cond_swap (finds q e.0) (bytes_eq q (bytes key)) (Some e.1) (Some v) (map_at es q)
         (λ one other.
-            let there : q ≡ bytes e.0 = (bytes_eq-Decides q (bytes e.0)).0 (sym (is_eq-slice_cmp q (bytes e.0)) ∙ one) in
-            let here : q ≡ bytes key = (bytes_eq-Decides q (bytes key)).0 other in
-            let tied : is_eq (order key e.0) ≡ true = is_eq-slice_cmp (bytes key) (bytes e.0) ∙ (bytes_eq-Decides (bytes key) (bytes e.0)).1 (sym here ∙ there) in
-            let untied : is_eq (order key e.0) ≡ false = ap is_eq is in
-            cc)
+        let there : q ≡ bytes e.0 = (bytes_eq-Decides q (bytes e.0)).0 (sym (is_eq-slice_cmp q (bytes e.0)) ∙ one) in
+        let here : q ≡ bytes key = (bytes_eq-Decides q (bytes key)).0 other in
+        let tied : is_eq (order key e.0) ≡ true = is_eq-slice_cmp (bytes key) (bytes e.0) ∙ (bytes_eq-Decides (bytes key) (bytes e.0)).1 (sym here ∙ there) in
+        let untied : is_eq (order key e.0) ≡ false = ap is_eq is in
+        cc)
 
     pub one_entry_more : (entries : List (K × X)) (key : K) (v : X) (q : List ℕ)
         → map_at (insert_entry order entries key v) q ≡ cond (bytes_eq q (bytes key)) (Some v) (map_at entries q)

@@ -4,7 +4,7 @@ use Rattle.std.specs.Option.{option_map_or}
 use Rattle.std.specs.List.{list_any}
 use Rattle.std.specs.Str.{bytes_eq}
 use Rattle.fault_script.specs.Limits.{is_new}
-use Rattle.fault_script.specs.Command.{Request, New, Append, Latest, At, Reconfigure, Command, Genesis, Plain, Restart, Begin, Step, Finish, Retry, LoseRequest, LoseReply, StoreFail, StoreHide, StoreStale, StoreFork, StoreHonest, RawAppend, RawLatest, RawShow, RawFinalize, Offer, Forge, End}
+use Rattle.fault_script.specs.Command.{Request, New, Append, Latest, At, Reconfigure, Command, Plain, Begin, StoreHide, StoreStale, StoreFork, RawAppend, RawLatest, RawShow}
 
 abbrev pub label_of_request : Request → Option (List ℕ)
 label_of_request (New client label payload) = Some label

@@ -10,3 +10,4 @@ pub mod Limits
 pub mod Line
 pub mod Script
 pub mod Kept
+pub mod Spelling

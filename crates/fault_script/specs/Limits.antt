@@ -1,7 +1,7 @@
 -- How many lines of a kind there may be: 256 `new`, 24 `reconfigure` and 24 `raw finalize`, begun ones included.
-use Rattle.std.specs.Prelude.{ℕ, Bool, true, false, ◌&&◌, ◌||◌, List, count_by, nat_le}
+use Rattle.std.specs.Prelude.{Bool, true, false, ◌&&◌, ◌||◌, List, count_by, nat_le}
 use Rattle.fault_script.specs.declared.counts.Counts.{Counts}
-use Rattle.fault_script.specs.Command.{Request, New, Append, Latest, At, Reconfigure, Command, Genesis, Plain, Restart, Begin, Step, Finish, Retry, LoseRequest, LoseReply, StoreFail, StoreHide, StoreStale, StoreFork, StoreHonest, RawAppend, RawLatest, RawShow, RawFinalize, Offer, Forge, End}
+use Rattle.fault_script.specs.Command.{Request, New, Append, Latest, At, Reconfigure, Command, Plain, Begin, RawFinalize}
 
 abbrev pub is_new_request : Request → Bool
 is_new_request (New client label payload) = true

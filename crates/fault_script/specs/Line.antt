@@ -7,7 +7,7 @@ use Rattle.fault_script.specs.declared.bad_cause.BadCause.{BadCause}
 use Rattle.fault_script.specs.declared.bad_cause.BadCause.TheVariants as causes
 use Rattle.fault_script.specs.Outcome.{◌>>=◌}
 use Rattle.fault_script.specs.Words.{words, word_at}
-use Rattle.fault_script.specs.Command.{Command, Genesis, Plain, Restart, Begin, Step, Finish, Retry, LoseRequest, LoseReply, StoreFail, StoreHide, StoreStale, StoreFork, StoreHonest, RawAppend, RawLatest, RawShow, RawFinalize, Offer, Forge, End}
+use Rattle.fault_script.specs.Command.{Command, End}
 use Rattle.fault_script.specs.Form.{form_of, word_count}
 use Rattle.fault_script.specs.Reading.{command_in}
 use Rattle.fault_script.specs.Labels.{is_used, makes_used_label}

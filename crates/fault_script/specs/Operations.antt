@@ -5,7 +5,7 @@ use Rattle.fault_script.specs.declared.standing.Role.{Role}
 use Rattle.fault_script.specs.declared.standing.Role.TheVariants as roles
 use Rattle.fault_script.specs.declared.standing.Standing.{Standing}
 use Rattle.fault_script.specs.declared.standing.Standing.TheVariants.{Unbegun, Open, Closed}
-use Rattle.fault_script.specs.Command.{Request, New, Append, Latest, At, Reconfigure, Command, Genesis, Plain, Restart, Begin, Step, Finish, Retry, LoseRequest, LoseReply, StoreFail, StoreHide, StoreStale, StoreFork, StoreHonest, RawAppend, RawLatest, RawShow, RawFinalize, Offer, Forge, End}
+use Rattle.fault_script.specs.Command.{Request, New, Append, Latest, At, Reconfigure, Command, Restart, Begin, Step, Finish, Retry, Offer, Forge}
 
 abbrev pub role_of : Request → Role
 role_of (New client label payload) = roles.Client

@@ -1,5 +1,5 @@
 -- A line of a known form, read word by word: the first word that is none of its kind is the cause.
-use Rattle.std.specs.Prelude.{ℕ, List, ◌+◌, Result, Ok, Err}
+use Rattle.std.specs.Prelude.{ℕ, List, ◌+◌, Result, Ok}
 use Rattle.fault_script.specs.declared.bad_cause.BadCause.{BadCause}
 use Rattle.fault_script.specs.declared.form.ActForm.{ActForm}
 use Rattle.fault_script.specs.declared.form.ActForm.TheVariants as acts

@@ -6,7 +6,7 @@ use Rattle.fault_script.specs.declared.bad_cause.BadCause.TheVariants as causes
 use Rattle.fault_script.specs.declared.script_fault.ScriptFault.{ScriptFault}
 use Rattle.fault_script.specs.declared.script_fault.ScriptFault.TheVariants as faults
 use Rattle.fault_script.specs.Words.{word_at}
-use Rattle.fault_script.specs.Command.{Command, Genesis, Plain, Restart, Begin, Step, Finish, Retry, LoseRequest, LoseReply, StoreFail, StoreHide, StoreStale, StoreFork, StoreHonest, RawAppend, RawLatest, RawShow, RawFinalize, Offer, Forge, End}
+use Rattle.fault_script.specs.Command.{Command, Genesis, Plain, Restart, End}
 use Rattle.fault_script.specs.Line.{has_ended, command_after}
 
 -- the lists without the last one where that is empty

@@ -1,5 +1,5 @@
 -- What contracts see of the code's lines and acts.
-use Rattle.std.specs.Prelude.{ℕ, List, map}
+use Rattle.std.specs.Prelude.{List, map}
 use Rattle.fault_script.specs.declared.act.Act.{Act}
 use Rattle.fault_script.specs.declared.act.Act.TheVariants as acts
 use Rattle.fault_script.specs.declared.line.Line.{Line}

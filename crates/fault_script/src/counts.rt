@@ -5,7 +5,9 @@ ghost use Rattle.fault_script.specs.Seen.{command_of};
 use crate::line::Line;
 
 const MAX_NEWS: usize = 256;
+
 const MAX_RECONFIGURES: usize = 24;
+
 const MAX_FINALIZES: usize = 24;
 
 /// How many lines of each kind there were of which there may be only so many.

@@ -25,6 +25,7 @@ pub mod script;
 pub mod script_fault;
 mod standing;
 mod words;
+mod writing;
 
 pub use act::Act;
 pub use bad_cause::BadCause;

@@ -14,8 +14,11 @@ use crate::words::{id_in, ids_in, name_in, number_in, parts, payload_in, word};
 use std::alloc::Global;
 
 const MAX_TIMES: u64 = 1000;
+
 const MAX_HEIGHT: u64 = 4294967295;
+
 const MAX_NONCE: u64 = 4294967295;
+
 const MAX_COUNT: u64 = 4294967296;
 
 /// The act of this form whose first word stands at a place.

@@ -106,6 +106,7 @@ impl Reader {
     }
 
     /// Reads the next line.
+    #[tactic(auto, unfolding(crate::specs::Line::command_after))]
     pub fn take(self, alloc: Global, text: &[u8]) -> Result<Reader, LineFault>
         ensures { Gives (λ reader. reader) result (commands_after self text.now) }
     {

@@ -4,13 +4,12 @@ ghost use Rattle.fault_script.specs.Script.{Fails, Gives, lines, read_after, scr
 use crate::bad_cause::BadCause;
 use crate::line_fault::LineFault;
 use crate::reader::Reader;
-use crate::script::Script;
+use crate::script::{MAX_BYTES, Script};
 use crate::script_fault::ScriptFault;
 use crate::words::{parts, word};
 use nim_base::NoMemory;
 use std::alloc::Global;
 
-const MAX_BYTES: usize = 1048576;
 const MAX_LINES: usize = 65536;
 
 /// The lines of a text.

@@ -1,9 +1,16 @@
-ghost use Rattle.std.specs.Prelude.{◌≡◌};
+ghost use Rattle.std.specs.Prelude.{◌≡◌, IfOk, take};
 ghost use Rattle.fault_script.specs.Script.{is_plain};
 ghost use Rattle.fault_script.specs.Seen.{commands_of};
+ghost use Rattle.fault_script.specs.Spelling.{text_of};
 
 use crate::line::Line;
+use crate::writing::write_lines;
+use nim_base::{NoMemory, Text};
+use std::alloc::Global;
 use std::marker::Model;
+
+/// How many bytes a script may have.
+pub(crate) const MAX_BYTES: usize = 1048576;
 
 /// The lines of a text that is a script.
 #[derive(Debug, Drop)]
@@ -27,6 +34,27 @@ fn are_plain(lines: &[Line]) -> bool
     lines.iter().all(|line| line.is_plain())
 }
 
+fn front(text: &[u8], limit: usize) -> &[u8]
+    ensures { result.now ≡ take limit text.now }
+{
+    if text.len() > limit {
+        &text[..limit]
+    } else {
+        text
+    }
+}
+
+fn write_within(alloc: Global, lines: &[Line]) -> Result<Text, NoMemory>
+    ensures { IfOk result (λ text. text.bytes ≡ text_of (commands_of lines.now)) }
+{
+    let text = write_lines(alloc, lines)?;
+    let kept = front(text.bytes(), MAX_BYTES);
+    if kept.len() < text.bytes().len() {
+        return Text::of(alloc, kept);
+    }
+    Ok(text)
+}
+
 impl Script {
     pub(crate) fn of(lines: Vec<Line>) -> Script
         ensures { result ≡ commands_of lines.items }
@@ -47,5 +75,13 @@ impl Script {
         ensures { result ≡ is_plain self.now }
     {
         are_plain(&self.lines)
+    }
+
+    /// The script as text that reads as this script again. Each line has its line feed, but for the
+    /// last one of a text that has 1,048,576 bytes without it.
+    pub fn write(&self, alloc: Global) -> Result<Text, NoMemory>
+        ensures { IfOk result (λ text. text.bytes ≡ text_of self.now) }
+    {
+        write_within(alloc, &self.lines)
     }
 }

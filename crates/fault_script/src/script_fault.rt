@@ -13,10 +13,7 @@ pub enum ScriptFault {
     /// long, 65,537 where it has too many lines, and one more than there are lines where `end` is
     /// missing.
     #[error("bad line {number}: {cause}")]
-    BadLine {
-        number: u64,
-        cause: BadCause,
-    },
+    BadLine { number: u64, cause: BadCause },
     /// There was too little memory.
     #[error("out of memory")]
     NoMemory,

@@ -24,7 +24,11 @@ pub(crate) fn parts(alloc: Global, bytes: &[u8], separator: u8) -> Result<Vec<&[
 pub(crate) fn word<'w>(words: &[&'w [u8]], place: usize) -> &'w [u8]
     ensures { result.now ≡ word_at (map (λ word. word.now) words.now) place }
 {
-    if place < words.len() { words[place] } else { b"" }
+    if place < words.len() {
+        words[place]
+    } else {
+        b""
+    }
 }
 
 fn is_letter(b: u8) -> bool
