@@ -50,15 +50,9 @@ fn read_lines(alloc: Global, lines: &[&[u8]]) -> Result<Reader, ScriptFault>
     }
 }
 
-/// Reads a script. It looks at no byte of a text of more than 1,048,576.
-///
-/// A `BadLine` has the number of the first bad line, from 1, and the first cause that applies to it;
-/// the number is 0 for a text that is too long, 65,537 for one of too many lines, and one more than
-/// there are lines where `end` is missing.
 #[tactic(auto, unfolding(crate::specs::Script::script_of))]
-pub fn read(alloc: Global, bytes: &[u8]) -> Result<Script, ScriptFault>
-    ensures script { IfOk result (λ script. script_of bytes.now ≡ Ok script) }
-    ensures fault { IfErr result (λ fault. Fails fault (script_of bytes.now)) }
+fn read_text(alloc: Global, bytes: &[u8]) -> Result<Reader, ScriptFault>
+    ensures { Gives result (script_of bytes.now) }
 {
     if bytes.len() > MAX_BYTES {
         return Err(ScriptFault::BadLine {
@@ -69,10 +63,22 @@ pub fn read(alloc: Global, bytes: &[u8]) -> Result<Script, ScriptFault>
     let lines = lines(alloc, bytes)?;
     if lines.len() > MAX_LINES {
         return Err(ScriptFault::BadLine {
-            number: 65537,
+            number: MAX_LINES as u64 + 1,
             cause: BadCause::Long,
         });
     }
-    let reader = read_lines(alloc, &lines)?;
+    read_lines(alloc, &lines)
+}
+
+/// Reads a script. It looks at no byte of a text of more than 1,048,576.
+///
+/// A `BadLine` has the number of the first bad line, from 1, and the first cause that applies to it;
+/// the number is 0 for a text that is too long, 65,537 for one of too many lines, and one more than
+/// there are lines where `end` is missing.
+pub fn read(alloc: Global, bytes: &[u8]) -> Result<Script, ScriptFault>
+    ensures script { IfOk result (λ script. script_of bytes.now ≡ Ok script) }
+    ensures fault { IfErr result (λ fault. Fails fault (script_of bytes.now)) }
+{
+    let reader = read_text(alloc, bytes)?;
     Ok(Script::of(reader.into_lines()))
 }

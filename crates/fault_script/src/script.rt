@@ -1,5 +1,5 @@
 ghost use Rattle.std.specs.Prelude.{◌≡◌, IfOk, take};
-ghost use Rattle.fault_script.specs.Script.{is_plain};
+ghost use Rattle.fault_script.specs.Script.{is_plain, script_of};
 ghost use Rattle.fault_script.specs.Seen.{commands_of};
 ghost use Rattle.fault_script.specs.Spelling.{text_of};
 
@@ -19,13 +19,18 @@ pub struct Script {
 }
 
 impl Model for Script {
-    ghost use Rattle.std.specs.Prelude.{List};
+    ghost use Rattle.std.specs.Prelude.{◌≡◌, List, Ok};
     ghost use Rattle.fault_script.specs.Command.{Command};
+    ghost use Rattle.fault_script.specs.Script.{script_of};
     ghost use Rattle.fault_script.specs.Seen.{commands_of};
+    ghost use Rattle.fault_script.specs.Spelling.{text_of};
 
     ghost Value = { List Command };
 
     ghost view = { λ script. commands_of script.lines.items };
+
+    // it is written as a text that reads as it again
+    ghost invariant = { λ script. script_of (text_of (commands_of script.lines.items)) ≡ Ok (commands_of script.lines.items) };
 }
 
 fn are_plain(lines: &[Line]) -> bool
@@ -57,6 +62,7 @@ fn write_within(alloc: Global, lines: &[Line]) -> Result<Text, NoMemory>
 
 impl Script {
     pub(crate) fn of(lines: Vec<Line>) -> Script
+        requires { script_of (text_of (commands_of lines.items)) ≡ Ok (commands_of lines.items) }
         ensures { result ≡ commands_of lines.items }
     {
         Script { lines }
@@ -80,7 +86,8 @@ impl Script {
     /// The script as text that reads as this script again. Each line has its line feed, but for the
     /// last one of a text that has 1,048,576 bytes without it.
     pub fn write(&self, alloc: Global) -> Result<Text, NoMemory>
-        ensures { IfOk result (λ text. text.bytes ≡ text_of self.now) }
+        ensures written { IfOk result (λ text. text.bytes ≡ text_of self.now) }
+        ensures again { IfOk result (λ text. script_of text.bytes ≡ Ok self.now) }
     {
         write_within(alloc, &self.lines)
     }
