@@ -48,7 +48,7 @@ or_not false false h e = cc
 pub digits_spelled : (word : List ℕ) → is_number word ≡ true → value word < 2 ^ 64 → decimal (value word) ≡ word
 digits_spelled word h small =
     let p = and_parts _ _ h in
-    let q = and_parts _ _ (and_parts _ _ p.1).1 in
+    let q = and_parts _ _ p.1 in
     decimal-digits_value own word q.0 (ltb-true 0 (length word) p.0)
     (λ zero. eqb-true (length word) 1 (or_not (eqb (length word) 1) (eqb (get_or word 0 0) 48) q.1 (ap (λ b. eqb b 48) zero)))
     small

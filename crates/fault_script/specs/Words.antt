@@ -41,9 +41,9 @@ is_payload_byte b = is_small_letter b || is_digit b
 abbrev pub is_payload : List ℕ → Bool
 is_payload word = nat_lt 0 (length word) && (nat_le (length word) 65537 && ((slice_index word 0 == 61) && list_all is_payload_byte (drop 1 word)))
 
--- digits without leading zeros; no limit of a number has more than ten
+-- digits without leading zeros
 abbrev pub is_number : List ℕ → Bool
-is_number word = nat_lt 0 (length word) && (nat_le (length word) 10 && (list_all is_digit word && ((length word == 1) || not (slice_index word 0 == 48))))
+is_number word = nat_lt 0 (length word) && (list_all is_digit word && ((length word == 1) || not (slice_index word 0 == 48)))
 
 -- the value of digits in decimal
 abbrev pub value : List ℕ → ℕ

@@ -1,4 +1,4 @@
-ghost use Rattle.std.specs.Prelude.{◌≡◌, ◌≤◌, ◌==◌, true, IfOk, IfSome, map};
+ghost use Rattle.std.specs.Prelude.{◌≡◌, ◌<◌, ◌≤◌, ◌==◌, ◌^◌, true, IfOk, IfSome, length, map};
 ghost use Rattle.std.specs.Option.{option_map};
 ghost use Rattle.std.specs.List.{list_all, slice_split};
 ghost use Rattle.fault_script.specs.Outcome.{Gives};
@@ -88,11 +88,12 @@ fn are_digits(bytes: &[u8]) -> bool
 fn is_number(word: &[u8]) -> bool
     ensures { result ≡ is_number word.now }
 {
-    !word.is_empty() && word.len() <= 10 && are_digits(word) && (word.len() == 1 || word[0] != b'0')
+    !word.is_empty() && are_digits(word) && (word.len() == 1 || word[0] != b'0')
 }
 
 fn value(word: &[u8]) -> u64
-    requires { is_number word.now ≡ true }
+    requires digits { list_all is_digit word.now ≡ true }
+    requires few { length word.now ≤ 10 }
     ensures { result ≡ value word.now }
 {
     let mut value = 0;
@@ -102,13 +103,15 @@ fn value(word: &[u8]) -> u64
     value
 }
 
-/// The number from `low` to `high` that a word is in decimal, without leading zeros.
+/// The number from `low` to `high` that a word is in decimal, without leading zeros. No limit has more
+/// than ten digits.
 #[tactic(auto, unfolding(crate::specs::Words::number_within))]
 fn number_within(low: u64, high: u64, word: &[u8]) -> Option<u64>
+    requires { high < 10 ^ 10 }
     ensures number { result ≡ number_within low high word.now }
     ensures limit { IfSome result (λ number. number ≤ high) }
 {
-    if is_number(word) {
+    if is_number(word) && word.len() <= 10 {
         let value = value(word);
         if low <= value && value <= high {
             return Some(value);
@@ -118,6 +121,7 @@ fn number_within(low: u64, high: u64, word: &[u8]) -> Option<u64>
 }
 
 pub(crate) fn number_in(low: u64, high: u64, word: &[u8]) -> Result<u64, LineFault>
+    requires { high < 10 ^ 10 }
     ensures number { Gives (λ number. number) result (number_in low high word.now) }
     ensures limit { IfOk result (λ number. number ≤ high) }
 {
