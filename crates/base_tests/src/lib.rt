@@ -3,6 +3,8 @@
 #![tactic(auto)]
 
 #[cfg(test)]
+mod bad_scripts;
+#[cfg(test)]
 mod base;
 #[cfg(test)]
 mod chains;

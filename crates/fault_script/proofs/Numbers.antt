@@ -1,5 +1,5 @@
 -- The value of a word of digits.
-use Rattle.std.proofs.Common.{◌≡◌, sym, ap, ℕ, ◌+◌, ◌-◌, ◌*◌, ◌^◌, ◌<◌, ◌≤◌, List, [], ◌∷◌, length, get_or, fold, Bool, true, false, not, ◌||◌, cond, eqb, leb, Some, None, refl, ◌&&◌, arith, lit<, add-one}
+use Rattle.std.proofs.Common.{suc, ◌≡◌, sym, ap, ℕ, ◌+◌, ◌-◌, ◌*◌, ◌^◌, ◌<◌, ◌≤◌, List, [], ◌∷◌, length, get_or, fold, Bool, true, false, not, ◌||◌, cond, eqb, leb, Some, None, refl, ◌&&◌, arith, lit<, add-one}
 use Rattle.std.specs.List.{list_all}
 use Rattle.std.proofs.lemmas.Bool.{and_parts, leb-true, eq-eqb, eqb-true}
 use Rattle.std.proofs.lemmas.List.Sums.{AllPass-from_list_all}
@@ -29,12 +29,14 @@ first_digit d false false low h one zero =
     let ne : d ≡ 48 → ⊥ = λ e. let t = zero e in cc in
     omega (arith, ne)
 
+not_one : (digits : List ℕ) → 10 < suc (length digits) → eqb (suc (length digits)) 1 ≡ true → ⊥
+not_one digits long e = let one = eqb-true (suc (length digits)) 1 e in omega (arith, one)
+
 first_is : (d : ℕ) (digits : List ℕ) → is_number (d ∷ digits) ≡ true → 10 < length (d ∷ digits) → 1 ≤ d - 48
 first_is d digits h long =
     let parts = and_parts (list_all is_digit (d ∷ digits)) (eqb (length (d ∷ digits)) 1 || not (eqb d 48)) (and_parts _ _ h).1 in
     let low = and_parts (leb 48 d) (leb d 57) (and_parts (is_digit d) (list_all is_digit digits) parts.0).0 in
-    first_digit d (eqb (length (d ∷ digits)) 1) (eqb d 48) (leb-true 48 d low.0) parts.1
-    (λ e. let one = eqb-true (length (d ∷ digits)) 1 e in omega (arith, one)) (eq-eqb d 48)
+    first_digit d (eqb (length (d ∷ digits)) 1) (eqb d 48) (leb-true 48 d low.0) parts.1 (not_one digits long) (eq-eqb d 48)
 
 least : (n : ℕ) (digits : List ℕ) → 1 ≤ n → 10 ≤ length digits → 10 ^ 10 ≤ fold (λ n digit. n * 10 + (digit - 48)) n digits
 least n digits some long =

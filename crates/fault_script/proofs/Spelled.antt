@@ -1,5 +1,5 @@
 -- Words that were read are the words that are written.
-use Rattle.std.proofs.Common.{◌≡◌, refl, sym, ap, ◌∙◌, Bool, true, false, not, ◌&&◌, ◌||◌, ℕ, ◌+◌, ◌-◌, ◌*◌, ◌<◌, ◌^◌, List, [], ◌∷◌, ◌++◌, length, get_or, map, fold, Option, Some, None, Ok, eqb, leb, lit<, arith}
+use Rattle.std.proofs.Common.{Result, ◌≡◌, refl, sym, ap, ◌∙◌, Bool, true, false, not, ◌&&◌, ◌||◌, ℕ, ◌+◌, ◌-◌, ◌*◌, ◌<◌, ◌^◌, List, [], ◌∷◌, ◌++◌, length, get_or, map, fold, Option, Some, None, Ok, eqb, leb, lit<, arith}
 use Rattle.std.specs.Option.{option_map}
 use Rattle.std.specs.Prelude.{option_and_then}
 use Rattle.std.specs.Fmt.{decimal}
@@ -9,6 +9,7 @@ use Rattle.std.proofs.lemmas.Fmt.{decimal-digits_value}
 use Rattle.std.proofs.lemmas.List.{append-nil}
 use Rattle.std.proofs.lemmas.List.Splits.{join_with_byte-slice_split}
 use Rattle.std.proofs.lemmas.Str.Parse.{IsNumeralModel, IsDigitsTest, FoldsDigits, numerals_by_fold}
+use Rattle.fault_script.specs.declared.bad_cause.BadCause.{BadCause}
 use Rattle.fault_script.specs.Words.{is_name, is_digit, is_number, is_payload, value, number_within, rising, ids_of, name_in, number_in, ids_in, payload_in}
 use Rattle.fault_script.specs.Spelling.{spaced, joined}
 use Rattle.fault_script.proofs.Steps.{if_ok, ok_or_some, if_some, map_some}
@@ -20,9 +21,9 @@ pub payload_spelled : (word payload : List ℕ) → payload_in word ≡ Ok paylo
 payload_spelled [] payload h = cc
 payload_spelled (b ∷ bytes) payload h =
     let read = if_ok (is_payload (b ∷ bytes)) (Ok bytes) _ payload h in
-    let first : b ≡ 61 = eqb-true b 61 (and_parts _ _ (and_parts _ _ (and_parts _ _ read.0).1).1).0 in
-    let rest : bytes ≡ payload = cc in
-    ap (λ x. x ∷ payload) (sym first) ∙ ap (λ xs. b ∷ xs) (sym rest)
+    let same : ◌≡◌ {A = Result (List ℕ) BadCause} (Ok bytes) (Ok payload) = read.1 in
+    let rest : payload ≡ bytes = cc in
+    ap (λ x. x ∷ payload) (sym (eqb-true b 61 (and_parts _ _ (and_parts _ _ (and_parts _ _ read.0).1).1).0)) ∙ ap (λ xs. b ∷ xs) rest
 
 and_both : (a b : Bool) → a ≡ true → b ≡ true → (a && b) ≡ true
 and_both a b p q = ap (λ x. x && b) p ∙ q
@@ -53,14 +54,16 @@ digits_spelled word h small =
     (λ zero. eqb-true (length word) 1 (or_not (eqb (length word) 1) (eqb (get_or word 0 0) 48) q.1 (ap (λ b. eqb b 48) zero)))
     small
 
+same_value : (one other : ℕ) → ◌≡◌ {A = Option ℕ} (Some one) (Some other) → one ≡ other
+same_value one other h = cc
+
 pub within_spelled : (low high : ℕ) (word : List ℕ) (n : ℕ) → high < 2 ^ 64 → number_within low high word ≡ Some n → decimal n ≡ word
 unfolding number_within
 within_spelled low high word n limit h =
     let found = if_some (is_number word && (leb low (value word) && leb (value word) high)) (Some (value word)) n h in
-    let p = and_parts _ _ found.0 in
-    let below = leb-true (value word) high (and_parts _ _ p.1).1 in
-    let same : value word ≡ n = cc in
-    ap decimal (sym same) ∙ digits_spelled word p.0 (omega (arith, below, limit))
+    let tests = and_parts (is_number word) (leb low (value word) && leb (value word) high) found.0 in
+    let below = leb-true (value word) high (and_parts (leb low (value word)) (leb (value word) high) tests.1).1 in
+    ap decimal (sym (same_value (value word) n found.1)) ∙ digits_spelled word tests.0 (omega (arith, below, limit))
 
 pub number_spelled : (low high : ℕ) (word : List ℕ) (n : ℕ) → high < 2 ^ 64 → number_in low high word ≡ Ok n → decimal n ≡ word
 number_spelled low high word n limit h = within_spelled low high word n limit (ok_or_some (number_within low high word) _ n h)

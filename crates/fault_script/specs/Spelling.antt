@@ -52,7 +52,15 @@ opening (Offer op ids) = codes "offer"
 opening (Forge op count ids) = codes "forge"
 opening End = codes "end"
 
--- the words behind it, of a line about the store, losses or an endorser
+-- the words behind it, of a line to an endorser
+abbrev pub raw_values : Command → List (List ℕ)
+raw_values (RawAppend id label height payload nonce) = decimal id ∷ label ∷ decimal height ∷ (61 ∷ payload) ∷ decimal nonce ∷ []
+raw_values (RawLatest id label nonce) = decimal id ∷ label ∷ decimal nonce ∷ []
+raw_values (RawShow id label) = decimal id ∷ label ∷ []
+raw_values (RawFinalize id ids) = decimal id ∷ joined ids ∷ []
+raw_values _ = []
+
+-- the same of a line about losses or the store too
 abbrev pub fault_values : Command → List (List ℕ)
 fault_values (LoseRequest id n) = decimal id ∷ decimal n ∷ []
 fault_values (LoseReply id n) = decimal id ∷ decimal n ∷ []
@@ -60,11 +68,7 @@ fault_values (StoreFail n) = decimal n ∷ []
 fault_values (StoreHide label height) = label ∷ decimal height ∷ []
 fault_values (StoreStale label height from) = label ∷ decimal height ∷ decimal from ∷ []
 fault_values (StoreFork label height) = label ∷ decimal height ∷ []
-fault_values (RawAppend id label height payload nonce) = decimal id ∷ label ∷ decimal height ∷ (61 ∷ payload) ∷ decimal nonce ∷ []
-fault_values (RawLatest id label nonce) = decimal id ∷ label ∷ decimal nonce ∷ []
-fault_values (RawShow id label) = decimal id ∷ label ∷ []
-fault_values (RawFinalize id ids) = decimal id ∷ joined ids ∷ []
-fault_values _ = []
+fault_values command = raw_values command
 
 -- the same of any line
 abbrev pub values : Command → List (List ℕ)

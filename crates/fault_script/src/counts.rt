@@ -30,7 +30,7 @@ impl Counts {
     }
 
     /// Whether a line is one too many of its kind.
-    pub fn are_exceeded(&self, line: &Line) -> bool
+    pub fn forbid(&self, line: &Line) -> bool
         ensures { result ≡ is_too_many self.now (command_of line.now) }
     {
         (line.is_new() && self.news >= MAX_NEWS)

@@ -32,7 +32,7 @@ impl Labels {
     }
 
     /// Whether a line makes a label that is used.
-    pub fn are_made_again(&self, line: &Line) -> bool
+    pub fn forbid(&self, line: &Line) -> bool
         ensures { result ≡ makes_used_label (has self.now) (command_of line.now) }
     {
         if !line.is_new() {

@@ -52,7 +52,7 @@ impl Operations {
     }
 
     /// Whether a line wants another standing of its operation.
-    pub fn are_misused(&self, line: &Line) -> bool
+    pub fn forbid(&self, line: &Line) -> bool
         ensures { result ≡ misuses (standing_in self.now) (command_of line.now) }
     {
         match line {

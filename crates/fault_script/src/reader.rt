@@ -67,13 +67,13 @@ impl Reader {
     fn fault(&self, line: &Line) -> Option<BadCause>
         ensures { result ≡ fault_after self.now (command_of line.now) }
     {
-        if self.labels.are_made_again(line) {
+        if self.labels.forbid(line) {
             return Some(BadCause::Label);
         }
-        if self.operations.are_misused(line) {
+        if self.operations.forbid(line) {
             return Some(BadCause::Op);
         }
-        if self.counts.are_exceeded(line) {
+        if self.counts.forbid(line) {
             return Some(BadCause::Many);
         }
         None

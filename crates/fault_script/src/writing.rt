@@ -2,7 +2,7 @@ ghost use Rattle.std.specs.Prelude.{◌≡◌, ◌++◌, [], ◌∷◌, IfOk, On
 ghost use Rattle.std.specs.Fmt.{decimal};
 ghost use Rattle.std.specs.List.{flat_map};
 ghost use Rattle.fault_script.specs.Seen.{command_of, commands_of, request_of};
-ghost use Rattle.fault_script.specs.Spelling.{act_values, act_word, fault_values, joined, line_text, opening, spaced, values, whole_text};
+ghost use Rattle.fault_script.specs.Spelling.{act_values, act_word, fault_values, joined, line_text, opening, raw_values, spaced, values, whole_text};
 
 use crate::act::Act;
 use crate::line::Line;
@@ -68,17 +68,15 @@ fn push_ids(alloc: Global, text: &mut Text, ids: &[u32]) -> Result<(), NoMemory>
     Ok(())
 }
 
-impl Act {
-    fn word(&self) -> &'static [u8]
-        ensures { result.now ≡ act_word (request_of self.now) }
-    {
-        match self {
-            Act::New { .. } => b"new",
-            Act::Append { .. } => b"append",
-            Act::Latest { .. } => b"latest",
-            Act::At { .. } => b"at",
-            Act::Reconfigure { .. } => b"reconfigure",
-        }
+fn act_word(act: &Act) -> &'static [u8]
+    ensures { result.now ≡ act_word (request_of act.now) }
+{
+    match act {
+        Act::New { .. } => b"new",
+        Act::Append { .. } => b"append",
+        Act::Latest { .. } => b"latest",
+        Act::At { .. } => b"at",
+        Act::Reconfigure { .. } => b"reconfigure",
     }
 }
 
@@ -123,58 +121,38 @@ fn push_act_values(alloc: Global, text: &mut Text, act: &Act) -> Result<(), NoMe
     }
 }
 
-impl Line {
-    fn opening(&self) -> &'static [u8]
-        ensures { result.now ≡ opening (command_of self.now) }
-    {
-        match self {
-            Line::Genesis { .. } => b"genesis",
-            Line::Plain { act } => act.word(),
-            Line::Restart => b"restart",
-            Line::Begin { .. } => b"begin",
-            Line::Step { .. } => b"step",
-            Line::Finish { .. } => b"finish",
-            Line::Retry { .. } => b"retry",
-            Line::LoseRequest { .. } => b"lose request",
-            Line::LoseReply { .. } => b"lose reply",
-            Line::StoreFail { .. } => b"store fail",
-            Line::StoreHide { .. } => b"store hide",
-            Line::StoreStale { .. } => b"store stale",
-            Line::StoreFork { .. } => b"store fork",
-            Line::StoreHonest => b"store honest",
-            Line::RawAppend { .. } => b"raw append",
-            Line::RawLatest { .. } => b"raw latest",
-            Line::RawShow { .. } => b"raw show",
-            Line::RawFinalize { .. } => b"raw finalize",
-            Line::Offer { .. } => b"offer",
-            Line::Forge { .. } => b"forge",
-            Line::End => b"end",
-        }
+fn opening(line: &Line) -> &'static [u8]
+    ensures { result.now ≡ opening (command_of line.now) }
+{
+    match line {
+        Line::Genesis { .. } => b"genesis",
+        Line::Plain { act } => act_word(act),
+        Line::Restart => b"restart",
+        Line::Begin { .. } => b"begin",
+        Line::Step { .. } => b"step",
+        Line::Finish { .. } => b"finish",
+        Line::Retry { .. } => b"retry",
+        Line::LoseRequest { .. } => b"lose request",
+        Line::LoseReply { .. } => b"lose reply",
+        Line::StoreFail { .. } => b"store fail",
+        Line::StoreHide { .. } => b"store hide",
+        Line::StoreStale { .. } => b"store stale",
+        Line::StoreFork { .. } => b"store fork",
+        Line::StoreHonest => b"store honest",
+        Line::RawAppend { .. } => b"raw append",
+        Line::RawLatest { .. } => b"raw latest",
+        Line::RawShow { .. } => b"raw show",
+        Line::RawFinalize { .. } => b"raw finalize",
+        Line::Offer { .. } => b"offer",
+        Line::Forge { .. } => b"forge",
+        Line::End => b"end",
     }
 }
 
-fn push_fault_values(alloc: Global, text: &mut Text, line: &Line) -> Result<(), NoMemory>
-    ensures { OnOk result (text.new.bytes ≡ text.old.bytes ++ spaced (fault_values (command_of line.now))) }
+fn push_raw_values(alloc: Global, text: &mut Text, line: &Line) -> Result<(), NoMemory>
+    ensures { OnOk result (text.new.bytes ≡ text.old.bytes ++ spaced (raw_values (command_of line.now))) }
 {
     match line {
-        Line::LoseRequest { id, n } | Line::LoseReply { id, n } => {
-            push_number(alloc, text, u64::from(*id))?;
-            push_number(alloc, text, *n)
-        }
-        Line::StoreFail { n } => push_number(alloc, text, *n),
-        Line::StoreHide { label, height } | Line::StoreFork { label, height } => {
-            push_word(text, label.bytes())?;
-            push_number(alloc, text, *height)
-        }
-        Line::StoreStale {
-            label,
-            height,
-            from,
-        } => {
-            push_word(text, label.bytes())?;
-            push_number(alloc, text, *height)?;
-            push_number(alloc, text, *from)
-        }
         Line::RawAppend {
             id,
             label,
@@ -205,6 +183,32 @@ fn push_fault_values(alloc: Global, text: &mut Text, line: &Line) -> Result<(), 
     }
 }
 
+fn push_fault_values(alloc: Global, text: &mut Text, line: &Line) -> Result<(), NoMemory>
+    ensures { OnOk result (text.new.bytes ≡ text.old.bytes ++ spaced (fault_values (command_of line.now))) }
+{
+    match line {
+        Line::LoseRequest { id, n } | Line::LoseReply { id, n } => {
+            push_number(alloc, text, u64::from(*id))?;
+            push_number(alloc, text, *n)
+        }
+        Line::StoreFail { n } => push_number(alloc, text, *n),
+        Line::StoreHide { label, height } | Line::StoreFork { label, height } => {
+            push_word(text, label.bytes())?;
+            push_number(alloc, text, *height)
+        }
+        Line::StoreStale {
+            label,
+            height,
+            from,
+        } => {
+            push_word(text, label.bytes())?;
+            push_number(alloc, text, *height)?;
+            push_number(alloc, text, *from)
+        }
+        _ => push_raw_values(alloc, text, line),
+    }
+}
+
 fn push_values(alloc: Global, text: &mut Text, line: &Line) -> Result<(), NoMemory>
     ensures { OnOk result (text.new.bytes ≡ text.old.bytes ++ spaced (values (command_of line.now))) }
 {
@@ -213,7 +217,7 @@ fn push_values(alloc: Global, text: &mut Text, line: &Line) -> Result<(), NoMemo
         Line::Plain { act } => push_act_values(alloc, text, act),
         Line::Begin { op, act } => {
             push_word(text, op.bytes())?;
-            push_word(text, act.word())?;
+            push_word(text, act_word(act))?;
             push_act_values(alloc, text, act)
         }
         Line::Step { op, n } => {
@@ -237,7 +241,7 @@ fn push_values(alloc: Global, text: &mut Text, line: &Line) -> Result<(), NoMemo
 fn push_line(alloc: Global, text: &mut Text, line: &Line) -> Result<(), NoMemory>
     ensures { OnOk result (text.new.bytes ≡ text.old.bytes ++ (line_text (command_of line.now) ++ 10 ∷ [])) }
 {
-    text.push(line.opening())?;
+    text.push(opening(line))?;
     push_values(alloc, text, line)?;
     text.push(b"\n")
 }
