@@ -369,4 +369,3 @@ fn bad_texts_have_their_first_bad_line(rt: HostRuntime) {
         assert!(rt; refuses(rt.alloc(), text.as_bytes(), *number, *cause));
     }
 }
-

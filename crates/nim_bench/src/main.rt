@@ -10,6 +10,7 @@ mod checks;
 mod clock;
 mod endorser;
 mod round;
+mod scripts;
 
 use crate::round::Size;
 use std::{env, io};
@@ -25,5 +26,6 @@ fn main(rt: HostRuntime) -> io::Result<()> {
     let size = size(&rt)?;
     clock::measure(&rt, rt.alloc(), size)?;
     endorser::measure(&rt, rt.alloc(), size)?;
-    checks::measure(&rt, rt.alloc(), size)
+    checks::measure(&rt, rt.alloc(), size)?;
+    scripts::measure(&rt, rt.alloc(), size)
 }
