@@ -2,12 +2,13 @@ use crate::round::{Round, Size, no_memory, show};
 use fault_script::read;
 use nim_base::Text;
 use std::alloc::Global;
+use std::collections::BTreeSet;
 use std::io;
 use std::rt::Clock as Timer;
 use std::time::Instant;
 
 /// Reads of a script of 1,000 lines, and of the longest one, each line with a label of its own, beside
-/// the same text split into words.
+/// the same text split into words, each copied, and a set of the labels.
 pub fn measure<R: Timer + Print>(rt: &R, alloc: Global, size: Size) -> io::Result<()> {
     let (short, long) = match size {
         Size::Small => (3, 1),
@@ -39,13 +40,13 @@ fn measure_lines<R: Timer + Print>(
 ) -> io::Result<()> {
     let text = script(alloc, lines)?;
     let work = timed_reads(rt, alloc, text.bytes(), calls)?;
-    let floor = timed_splits(rt, text.bytes(), calls)?;
+    let floor = timed_least(rt, alloc, text.bytes(), calls)?;
     show(
         rt,
         size,
         ("lines", lines),
         ("scripts", &work),
-        ("splits into words", &floor),
+        ("copies of words and a set of labels", &floor),
     )
 }
 
@@ -56,9 +57,9 @@ fn timed_reads<R: Timer>(rt: &R, alloc: Global, text: &[u8], calls: u64) -> io::
     Ok(Round { calls, sum, time })
 }
 
-fn timed_splits<R: Timer>(rt: &R, text: &[u8], calls: u64) -> io::Result<Round> {
+fn timed_least<R: Timer>(rt: &R, alloc: Global, text: &[u8], calls: u64) -> io::Result<Round> {
     let begin = Instant::now(rt)?;
-    let sum = splits(text, calls);
+    let sum = least(alloc, text, calls)?;
     let time = begin.elapsed(rt)?;
     Ok(Round { calls, sum, time })
 }
@@ -74,14 +75,32 @@ fn reads(alloc: Global, text: &[u8], calls: u64) -> u64 {
     lines
 }
 
-/// How many words there were.
-fn splits(text: &[u8], calls: u64) -> u64 {
-    let mut words = 0u64;
+/// How many words were copied and how many labels were kept.
+fn least(alloc: Global, text: &[u8], calls: u64) -> io::Result<u64> {
+    let mut kept = 0u64;
     for _ in 0..calls {
+        let mut words = Vec::new(alloc);
+        let mut labels = BTreeSet::new(alloc);
         for line in text.split(|b| *b == b'\n') {
-            let count = line.split(|b| *b == b' ').count();
-            words = words.wrapping_add(count as u64);
+            copy_words(alloc, line, &mut words, &mut labels)?;
         }
+        kept = kept.wrapping_add(words.len() as u64);
+        kept = kept.wrapping_add(labels.len() as u64);
     }
-    words
+    Ok(kept)
+}
+
+fn copy_words(
+    alloc: Global,
+    line: &[u8],
+    words: &mut Vec<Vec<u8>>,
+    labels: &mut BTreeSet<Vec<u8>>,
+) -> io::Result<()> {
+    for word in line.split(|b| *b == b' ') {
+        words.push(Vec::from_slice(alloc, word)?)?;
+    }
+    if let Some(label) = words.last() {
+        let _ = labels.insert(Vec::from_slice(alloc, label)?)?;
+    }
+    Ok(())
 }
