@@ -3,6 +3,8 @@
 #![tactic(auto)]
 
 #[cfg(test)]
+mod bad_scripts;
+#[cfg(test)]
 mod base;
 #[cfg(test)]
 mod chains;
@@ -12,5 +14,7 @@ mod hexadecimal;
 mod maps;
 #[cfg(test)]
 mod outside;
+#[cfg(test)]
+mod scripts;
 #[cfg(test)]
 mod statements;

@@ -10,6 +10,7 @@ mod checks;
 mod clock;
 mod endorser;
 mod round;
+mod scripts;
 mod stores;
 
 use crate::round::Size;
@@ -27,5 +28,6 @@ fn main(rt: HostRuntime) -> io::Result<()> {
     clock::measure(&rt, rt.alloc(), size)?;
     endorser::measure(&rt, rt.alloc(), size)?;
     checks::measure(&rt, rt.alloc(), size)?;
-    stores::measure(&rt, rt.alloc(), size)
+    stores::measure(&rt, rt.alloc(), size)?;
+    scripts::measure(&rt, rt.alloc(), size)
 }

@@ -1,0 +1,17 @@
+mod Numbers
+mod Rising
+mod Names
+mod Adding
+mod Steps
+mod Spelled
+mod Heads
+mod Arity
+mod SpelledActs
+mod SpelledForms
+mod SpelledOps
+mod SpelledLosses
+mod SpelledStores
+mod SpelledRaws
+mod SpelledLines
+mod Texts
+mod Again

@@ -1,0 +1,13 @@
+pub mod Outcome
+pub mod Words
+pub mod Command
+pub mod Seen
+pub mod Form
+pub mod Reading
+pub mod Labels
+pub mod Operations
+pub mod Limits
+pub mod Line
+pub mod Script
+pub mod Kept
+pub mod Spelling
