@@ -1,5 +1,5 @@
-//! What no contract says of signing, rows, the endorser, stores, views, replies, clocks, cells and clients'
-//! passes: outside vectors, whole exchanges, that ample memory suffices, and what only running threads show.
+//! What no contract says of signing, rows, the endorser, stores, views, replies, clocks, cells, banks, catch-ups, refreshes
+//! and clients' passes: outside vectors, whole exchanges, that ample memory suffices, and what only running threads show.
 
 #![tactic(auto)]
 
@@ -19,6 +19,8 @@ mod endorsers;
 mod hexadecimal;
 #[cfg(test)]
 mod passes;
+#[cfg(test)]
+mod refreshes;
 #[cfg(test)]
 mod replies;
 #[cfg(test)]
