@@ -1,13 +1,14 @@
 -- One call of a store in memory.
-use Rattle.std.proofs.Common.{◌≡◌, inl, inr, ⊎_elim, ℕ, ◌<◌, ◌≤◌, arith, Bool, true, List, [], ◌∷◌, ◌++◌, Option, refl, sym, ap, subst}
+use Rattle.std.proofs.Common.{◌≡◌, ◌⊎◌, inl, inr, ⊎_elim, ℕ, zero, suc, ◌<◌, ◌≤◌, arith, Bool, true, false, List, [], ◌∷◌, ◌++◌, Option, refl, sym, ap, subst}
 use Rattle.std.specs.Option.{unwrap_or}
+use Rattle.std.proofs.lemmas.Bool.{cases_Bool}
 use Rattle.std.specs.List.{Contains}
-use Rattle.std.proofs.lemmas.List.Elements.{Contains-append_left, Contains-append_right}
+use Rattle.std.proofs.lemmas.List.Elements.{Contains-append_cases, Contains-append_left, Contains-append_right}
 use Rattle.port.specs.declared.key.Key.{Key}
 use Rattle.port.specs.Count.{next}
 use Rattle.port.specs.Contents.{Contents}
 use Rattle.port.specs.Store.{StoreCall, StoreAnswer, StoreView, StoreStep, IsHonest, Truth, Follows, is_failed, is_no_memory}
-use Rattle.blob_store.specs.Line.{Line, WasLogged}
+use Rattle.blob_store.specs.Line.{Line, IsNoted, WasLogged}
 use Rattle.blob_store.specs.Rows.{contents_of}
 use Rattle.blob_store.specs.Memory.{memory_view, truth_of}
 use Rattle.blob_store.specs.Lies.{source_of, forks_of}
@@ -74,3 +75,21 @@ lied old new call answer same step =
       honest = step.honest;
       follows = step.follows;
     })
+
+alone : (line other : Line) → Contains (line ∷ []) other → other ≡ line
+alone line other (zero, lt, e) = sym e
+alone line other (suc i, lt, e) = absurd (omega (arith, lt))
+
+-- what stands where a call was noted stood before, or is this call
+pub noted_alone : (old new : List Line) (line : Line) → IsNoted old new line
+    → (n : ℕ) (c : StoreCall) (a : StoreAnswer) → is_no_memory a ≡ false → WasLogged new n c a
+    → WasLogged old n c a ⊎ ((n ≡ line.number) × (c ≡ line.call) × (a ≡ line.answer))
+noted_alone old new line noted n c a some was =
+    elim (cases_Bool (is_no_memory line.answer)) [
+      | inl none ↦ let same : new ≡ old = rw none at noted in inl (subst (λ (l : List Line). WasLogged l n c a) same was)
+      | inr kept ↦ let more : new ≡ old ++ line ∷ [] = rw kept at noted in by_place (subst (λ (l : List Line). WasLogged l n c a) more was)
+    ]
+  where
+    by_place : WasLogged (old ++ line ∷ []) n c a → WasLogged old n c a ⊎ ((n ≡ line.number) × (c ≡ line.call) × (a ≡ line.answer))
+    by_place (inl none) = absurd cc
+    by_place (inr h) = ⊎_elim (λ before. inl (inr before)) (λ last. let is : record { number = n; call = c; answer = a } ≡ line = alone line _ last in inr (ap (λ (l : Line). l.number) is, ap (λ (l : Line). l.call) is, ap (λ (l : Line). l.answer) is)) (Contains-append_cases old (line ∷ []) _ h)

@@ -1,9 +1,9 @@
 -- What counts as a fault of a store in memory.
-use Rattle.std.specs.Prelude.{◌≡◌, ◌⊎◌, ℕ, ◌+◌, true, Some, None, IsSome}
+use Rattle.std.specs.Prelude.{◌≡◌, ◌⊎◌, ℕ, ◌+◌, true, false, Some, None, IsSome}
 use Rattle.port.specs.declared.store_answers.Put.TheVariants as puts
 use Rattle.port.specs.declared.store_answers.Got.TheVariants as gots
 use Rattle.port.specs.Contents.{Contents}
-use Rattle.port.specs.Store.{StoreCall, PutNew, Get, StoreAnswer, WasPut, WasGot, StoreView, is_failed}
+use Rattle.port.specs.Store.{StoreCall, PutNew, Get, StoreAnswer, WasPut, WasGot, StoreView, is_failed, is_no_memory}
 
 -- the answer isn't that of an honest store with these contents, or the call failed
 abbrev pub IsFault : Contents → StoreCall → StoreAnswer → Type 0
@@ -23,3 +23,9 @@ pub record Stays {S : Type 0} (view : S → StoreView) (old new : S) : Type 0 wh
   pub told : (view new).told ≡ (view old).told
   pub keeps : (n : ℕ) (c : StoreCall) (a : StoreAnswer) → (view old).was n c a → (view new).was n c a
   pub no_more : (n : ℕ) (c : StoreCall) (a : StoreAnswer) → (view new).was n c a → (view old).was n c a
+
+-- No call came to stand but this one, under its number; of one that found no memory nothing is known.
+abbrev pub AddsOnly : {S : Type 0} → (S → StoreView) → S → S → StoreCall → StoreAnswer → Type 0
+AddsOnly view old new call answer =
+    (n : ℕ) (c : StoreCall) (a : StoreAnswer) → is_no_memory a ≡ false → (view new).was n c a
+    → (view old).was n c a ⊎ ((n ≡ (view old).calls) × (c ≡ call) × (a ≡ answer))

@@ -1,5 +1,5 @@
 -- A line of the list of a store's calls.
-use Rattle.std.specs.Prelude.{◌≡◌, ◌⊎◌, ℕ, true, List}
+use Rattle.std.specs.Prelude.{◌≡◌, ◌⊎◌, ℕ, true, List, [], ◌∷◌, ◌++◌, MatchBool}
 use Rattle.std.specs.List.{Contains}
 use Rattle.std.specs.Option.{option_map}
 use Rattle.port.specs.declared.store_answers.Got.{Got}
@@ -34,3 +34,7 @@ line_of logged = line_at logged.number logged.call
 -- the list has this call under this number; of one that found no memory nothing is known
 abbrev pub WasLogged : List Line → ℕ → StoreCall → StoreAnswer → Type 0
 WasLogged lines number call answer = (is_no_memory answer ≡ true) ⊎ Contains lines (record { number = number; call = call; answer = answer })
+
+-- the list with this call at its end; one that found no memory isn't kept
+abbrev pub IsNoted : List Line → List Line → Line → Type 0
+IsNoted old new line = MatchBool (is_no_memory line.answer) (new ≡ old) (new ≡ old ++ line ∷ [])

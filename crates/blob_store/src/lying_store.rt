@@ -2,7 +2,7 @@ ghost use Rattle.std.specs.Prelude.{◌≡◌, ◌+◌, ◌-◌, ◌^◌, ℕ, m
 ghost use Rattle.std.specs.Option.{option_copied};
 ghost use Rattle.port.specs.Contents.{nothing};
 ghost use Rattle.port.specs.Store.{StoreCall, StoreAnswer, StoreStep, PutNew, Get, Attach, WasPut, WasGot, WasAttached, failures, is_no_memory};
-ghost use Rattle.blob_store.specs.Fault.{Counts, Stays};
+ghost use Rattle.blob_store.specs.Fault.{AddsOnly, Counts, Stays};
 
 use crate::lie::Lie;
 use crate::lies::Lies;
@@ -95,6 +95,7 @@ impl Store for LyingStore {
 
         // what this store promises besides
         ensures counts { Counts (held_in self.old).contents (PutNew key.now body.now) (WasPut result) (lying_view self.old).faults (lying_view self.new).faults }
+        ensures only { AddsOnly lying_view self.old self.new (PutNew key.now body.now) (WasPut result) }
     {
         let forks = self.lies.forks(key);
         self.memory.put_new(alloc, key, body, forks)
@@ -103,6 +104,7 @@ impl Store for LyingStore {
     fn get(&mut self, alloc: Global, key: &Key) -> Got
         ensures step { StoreStep lying_view self.old self.new (Get key.now) (WasGot result) }
         ensures counts { Counts (held_in self.old).contents (Get key.now) (WasGot result) (lying_view self.old).faults (lying_view self.new).faults }
+        ensures only { AddsOnly lying_view self.old self.new (Get key.now) (WasGot result) }
     {
         let source = self.lies.source(key);
         self.memory.get(alloc, key, &source)
@@ -111,6 +113,7 @@ impl Store for LyingStore {
     fn attach(&mut self, alloc: Global, key: &Key, bytes: &[u8]) -> Attached
         ensures step { StoreStep lying_view self.old self.new (Attach key.now bytes.now) (WasAttached result) }
         ensures counts { (lying_view self.new).faults ≡ (lying_view self.old).faults + failures (WasAttached result) }
+        ensures only { AddsOnly lying_view self.old self.new (Attach key.now bytes.now) (WasAttached result) }
     {
         self.memory.attach(alloc, key, bytes)
     }

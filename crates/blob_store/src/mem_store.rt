@@ -1,7 +1,7 @@
 ghost use Rattle.std.specs.Prelude.{◌≡◌, ◌+◌, ◌-◌, ◌^◌, ℕ, min, true, Some};
 ghost use Rattle.port.specs.Contents.{nothing};
 ghost use Rattle.port.specs.Store.{StoreCall, StoreAnswer, StoreStep, PutNew, Get, Attach, WasPut, WasGot, WasAttached, failures, is_no_memory};
-ghost use Rattle.blob_store.specs.Fault.{Stays};
+ghost use Rattle.blob_store.specs.Fault.{AddsOnly, Stays};
 
 use crate::memory::Memory;
 use port::{Attached, Got, Key, Put, Store};
@@ -50,6 +50,7 @@ impl Store for MemStore {
 
         // what the honest store promises besides
         ensures faults { (mem_view self.new).faults ≡ (mem_view self.old).faults + failures (WasPut result) }
+        ensures only { AddsOnly mem_view self.old self.new (PutNew key.now body.now) (WasPut result) }
     {
         self.memory.put_new(alloc, key, body, false)
     }
@@ -57,6 +58,7 @@ impl Store for MemStore {
     fn get(&mut self, alloc: Global, key: &Key) -> Got
         ensures step { StoreStep mem_view self.old self.new (Get key.now) (WasGot result) }
         ensures faults { (mem_view self.new).faults ≡ (mem_view self.old).faults + failures (WasGot result) }
+        ensures only { AddsOnly mem_view self.old self.new (Get key.now) (WasGot result) }
     {
         self.memory.get(alloc, key, &Some(*key))
     }
@@ -64,6 +66,7 @@ impl Store for MemStore {
     fn attach(&mut self, alloc: Global, key: &Key, bytes: &[u8]) -> Attached
         ensures step { StoreStep mem_view self.old self.new (Attach key.now bytes.now) (WasAttached result) }
         ensures faults { (mem_view self.new).faults ≡ (mem_view self.old).faults + failures (WasAttached result) }
+        ensures only { AddsOnly mem_view self.old self.new (Attach key.now bytes.now) (WasAttached result) }
     {
         self.memory.attach(alloc, key, bytes)
     }

@@ -4,6 +4,7 @@ ghost use Rattle.port.specs.Contents.{nothing};
 ghost use Rattle.port.specs.Store.{StoreStep, PutNew, Get, Attach, WasPut, WasGot, WasAttached, failures};
 ghost use Rattle.blob_store.specs.Rows.{contents_of};
 ghost use Rattle.blob_store.specs.Fault.{Counts};
+ghost use Rattle.blob_store.specs.Line.{IsNoted};
 
 use crate::call_log::CallLog;
 use crate::rows::Rows;
@@ -57,6 +58,7 @@ impl Memory {
     pub fn put_new(&mut self, alloc: Global, key: &Key, body: &[u8], replaces: bool) -> Put
         ensures step { (source : Key → Option Key) (forks : Key → Bool) → forks key.now ≡ replaces
             → StoreStep (memory_view source forks) self.old self.new (PutNew key.now body.now) (WasPut result) }
+        ensures noted { IsNoted self.old.log self.new.log (record { number = self.old.calls; call = PutNew key.now body.now; answer = WasPut result }) }
         ensures counts { Counts (contents_of self.old.rows) (PutNew key.now body.now) (WasPut result) self.old.faults self.new.faults }
         ensures honest { replaces ≡ false → self.new.faults ≡ self.old.faults + failures (WasPut result) }
     {
@@ -115,6 +117,7 @@ impl Memory {
     pub fn get(&mut self, alloc: Global, key: &Key, source: &Option<Key>) -> Got
         ensures step { (sources : Key → Option Key) (forks : Key → Bool) → sources key.now ≡ source.now
             → StoreStep (memory_view sources forks) self.old self.new (Get key.now) (WasGot result) }
+        ensures noted { IsNoted self.old.log self.new.log (record { number = self.old.calls; call = Get key.now; answer = WasGot result }) }
         ensures counts { Counts (contents_of self.old.rows) (Get key.now) (WasGot result) self.old.faults self.new.faults }
         ensures honest { source.now ≡ Some key.now → self.new.faults ≡ self.old.faults + failures (WasGot result) }
     {
@@ -158,6 +161,7 @@ impl Memory {
     pub fn attach(&mut self, alloc: Global, key: &Key, bytes: &[u8]) -> Attached
         ensures step { (source : Key → Option Key) (forks : Key → Bool)
             → StoreStep (memory_view source forks) self.old self.new (Attach key.now bytes.now) (WasAttached result) }
+        ensures noted { IsNoted self.old.log self.new.log (record { number = self.old.calls; call = Attach key.now bytes.now; answer = WasAttached result }) }
         ensures counts { self.new.faults ≡ self.old.faults + failures (WasAttached result) }
     {
         let number = self.calls;
