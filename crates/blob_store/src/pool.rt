@@ -1,4 +1,6 @@
-ghost use Rattle.std.specs.Prelude.{◌≡◌, IfOk, IfSome};
+ghost use Rattle.std.specs.Prelude.{◌≡◌, true, false, IfOk, IfSome, IfNone};
+ghost use Rattle.std.specs.List.{list_any};
+ghost use Rattle.std.specs.Str.{bytes_eq};
 
 use nim_base::{NoMemory, Text};
 use port::Key;
@@ -36,7 +38,8 @@ impl Pool {
 }
 
 fn share_in(alloc: Global, texts: &mut Vec<Arc<Text>>, bytes: &[u8]) -> Result<Arc<Text>, NoMemory>
-    ensures { IfOk result (λ text. text.value.bytes ≡ bytes.now) }
+    ensures bytes { IfOk result (λ text. text.value.bytes ≡ bytes.now) }
+    ensures once { list_any (λ text. bytes_eq text.value.bytes bytes.now) texts.old.items ≡ true → texts.new.items ≡ texts.old.items }
 {
     if let Some(text) = find(texts, bytes) {
         return Ok(Arc::try_clone(text)?);
@@ -47,7 +50,8 @@ fn share_in(alloc: Global, texts: &mut Vec<Arc<Text>>, bytes: &[u8]) -> Result<A
 }
 
 fn find<'a>(texts: &'a [Arc<Text>], bytes: &[u8]) -> Option<&'a Arc<Text>>
-    ensures { IfSome result (λ text. text.now.value.bytes ≡ bytes.now) }
+    ensures bytes { IfSome result (λ text. text.now.value.bytes ≡ bytes.now) }
+    ensures none { IfNone result (list_any (λ text. bytes_eq text.value.bytes bytes.now) texts.now ≡ false) }
 {
     for text in texts {
         if text.bytes() == bytes {
