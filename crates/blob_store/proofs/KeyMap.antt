@@ -21,6 +21,13 @@ module _ (cmp : Key → Key → Ordering) (ties : (a b : Key) → is_eq (cmp a b
       sym (found after q) ∙ updates q ∙ ap (λ (b : Bool). cond b (Some s) (lookup (is_at (cmp q)) before)) (ties k q)
       ∙ ap (λ (o : Option X). cond (is_same_key k q) (Some s) o) (found before q))
 
+  -- what isn't at the key stays
+  pub apart : (before after : List (Key × X)) (k : Key) (s : X)
+      → ((q : Key) → lookup (is_at (cmp q)) after ≡ cond (is_at (cmp k) q) (Some s) (lookup (is_at (cmp q)) before))
+      → (other : Key) → is_same_key k other ≡ false → lookup (is_same_key other) after ≡ lookup (is_same_key other) before
+  apart before after k s updates other is =
+      sym (found after other) ∙ updates other ∙ ap (λ (b : Bool). cond b (Some s) (lookup (is_at (cmp other)) before)) (ties k other ∙ is) ∙ found before other
+
 unwrapped : {X : Type 0} (b : Bool) (x d : X) (o : Option X) → unwrap_or (cond b (Some x) o) d ≡ (if b then x else unwrap_or o d)
 unwrapped true x d o = refl
 unwrapped false x d o = refl

@@ -1,4 +1,5 @@
 pub mod Rows
+pub mod Pool
 pub mod Line
 pub mod Memory
 pub mod MemStore
