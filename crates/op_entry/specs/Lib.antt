@@ -4,3 +4,4 @@ pub mod Refresh
 pub mod RefreshSays
 pub mod RefreshTurn
 pub mod RefreshSound
+pub mod Walk

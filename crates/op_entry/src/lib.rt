@@ -9,7 +9,9 @@ mod attachment;
 mod refresh;
 mod refresh_stage;
 mod refresh_turn;
+mod walk;
 
 pub use attachment::{Head, accepted_receipt};
 pub use refresh::Refresh;
 pub use refresh_turn::RefreshProgress;
+pub use walk::{MAX_BLOCKS, Walk, WalkProgress};
