@@ -1,5 +1,5 @@
 -- What an outcome of an extension is.
-use Rattle.std.proofs.Common.{◌≡◌, Option, Some, None, Result, Ok, Err, refl, sym}
+use Rattle.std.proofs.Common.{◌≡◌, Option, Some, None, Ok, Err}
 use Rattle.std.specs.Option.{option_map_or}
 use Rattle.port.specs.View.{ViewRow}
 use Rattle.view_ledger.specs.declared.view_fault.ViewFault.{ViewFault}

@@ -1,5 +1,5 @@
 -- What a call makes of a refresh.
-use Rattle.std.proofs.Common.{◌≡◌, ℕ, ◌-◌, ◌*◌, ◌^◌, ◌<◌, List, [], ◌∷◌, length, Result, Ok, Err, inl, inr, refl, sym, ap, subst, arith}
+use Rattle.std.proofs.Common.{◌≡◌, ℕ, ◌^◌, ◌<◌, List, [], ◌∷◌, length, Result, Ok, Err, inr, refl, sym, subst, arith}
 use Rattle.nim_base.specs.declared.no_memory.NoMemory.{NoMemory}
 use Rattle.statement.specs.declared.member.Member.{Member}
 use Rattle.statement.specs.declared.view_block.ViewBlock.{ViewBlock}
@@ -12,9 +12,9 @@ use Rattle.view_ledger.specs.Receipts.{Accepts}
 use Rattle.op_entry.specs.declared.refresh_turn.RefreshProgress.{RefreshProgress}
 use Rattle.op_entry.specs.declared.refresh_turn.RefreshProgress.TheVariants.{More, Fresh, Refused}
 use Rattle.op_entry.specs.RefreshState.{RefreshState, AtView, AtFinals, AtEnd, calls_left}
-use Rattle.op_entry.specs.Refresh.{Grew, marks_of}
+use Rattle.op_entry.specs.Refresh.{marks_of}
 use Rattle.op_entry.specs.RefreshTurn.{GoesAtView, GoesAtFinals}
-use Rattle.op_entry.specs.RefreshSound.{Sound, IsHalfway, HasEnded, Leads}
+use Rattle.op_entry.specs.RefreshSound.{IsHalfway, HasEnded, Leads}
 
 -- a call for a view leaves fewer
 pub view_falls : (chain : ViewChain) (number : ℕ) (event : Event) (new : RefreshState) (result : Result RefreshProgress NoMemory)

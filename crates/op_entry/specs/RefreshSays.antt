@@ -1,23 +1,20 @@
 -- What the answer to a step of a refresh says of the newest calls.
-use Rattle.std.specs.Prelude.{◌≡◌, ◌⊎◌, ℕ, false, true, List, [], ◌∷◌, length, Some, None, Result, Ok, Err}
-use Rattle.nim_base.specs.declared.no_memory.NoMemory.{NoMemory}
+use Rattle.std.specs.Prelude.{◌≡◌, ◌⊎◌, ℕ, false, List, length, Some, None, Err}
 use Rattle.statement.specs.declared.member.Member.{Member}
 use Rattle.statement.specs.declared.view_block.ViewBlock.{ViewBlock}
 use Rattle.port.specs.declared.key.Key.{Key}
 use Rattle.port.specs.declared.key.Key.TheVariants as keys
 use Rattle.port.specs.declared.store_answers.Got.TheVariants as gots
-use Rattle.port.specs.View.{FinalMap, ViewRow}
+use Rattle.port.specs.View.{FinalMap}
 use Rattle.port.specs.Stored.{Stored}
 use Rattle.port.specs.Store.{Get, WasGot}
 use Rattle.port.specs.Trace.{Event, AtStore}
-use Rattle.port.specs.Cause.{Cause, StoreFault, BadRow, cause_of}
+use Rattle.port.specs.Cause.{Cause, StoreFault, BadRow}
 use Rattle.view_ledger.specs.declared.view_fault.ViewFault.{ViewFault}
 use Rattle.view_ledger.specs.declared.view_fault.ViewFault.TheVariants as faults
 use Rattle.view_ledger.specs.Views.{ViewChain}
 use Rattle.view_ledger.specs.Receipts.{Accepts}
 use Rattle.view_ledger.specs.Extension.{extend_outcome}
-use Rattle.op_entry.specs.declared.refresh_turn.RefreshProgress.{RefreshProgress}
-use Rattle.op_entry.specs.declared.refresh_turn.RefreshProgress.TheVariants.{More, Fresh, Refused}
 use Rattle.op_entry.specs.Refresh.{IsComplete, GaveView, ReadsAsView, GaveFinals, ReadsAsFinals, marks_of}
 
 -- in this call the store gave no view of this number that is marked as complete

@@ -1,5 +1,5 @@
 -- Which calls a refresh has made, and what the next one makes of it.
-use Rattle.std.specs.Prelude.{◌≡◌, ◌⊎◌, ℕ, List, [], ◌∷◌, length, Result, Ok, Err}
+use Rattle.std.specs.Prelude.{◌≡◌, ◌⊎◌, ℕ, List, [], ◌∷◌, length, Result}
 use Rattle.nim_base.specs.declared.no_memory.NoMemory.{NoMemory}
 use Rattle.statement.specs.declared.member.Member.{Member}
 use Rattle.statement.specs.declared.view_block.ViewBlock.{ViewBlock}

@@ -1,5 +1,5 @@
 -- A walk up the rows of a ledger.
-use Rattle.std.specs.Prelude.{◌≡◌, ◌⊎◌, ℕ, ◌+◌, ◌-◌, Bool, true, false, if◌then◌else◌, List, [], ◌∷◌, ◌++◌, length, Some, None, Result, Ok, Err}
+use Rattle.std.specs.Prelude.{◌≡◌, ℕ, ◌+◌, ◌-◌, Bool, if◌then◌else◌, List, [], ◌∷◌, ◌++◌, length, Some, Result, Ok, Err}
 use Rattle.chain_block.specs.declared.meta_block.MetaBlock.{MetaBlock}
 use Rattle.chain_block.specs.Tail.{tail_after}
 use Rattle.nim_base.specs.declared.no_memory.NoMemory.{NoMemory}
@@ -9,7 +9,7 @@ use Rattle.port.specs.declared.key.Key.TheVariants as keys
 use Rattle.port.specs.declared.store_answers.Got.{Got}
 use Rattle.port.specs.declared.store_answers.Got.TheVariants as gots
 use Rattle.port.specs.Row.{Content}
-use Rattle.port.specs.GoodRow.{IsGoodRow, IsBadRow}
+use Rattle.port.specs.GoodRow.{IsGoodRow}
 use Rattle.port.specs.Stored.{Stored}
 use Rattle.port.specs.Cause.{Cause, StoreFault, BadRow, TooFar, cause_of}
 use Rattle.view_ledger.specs.Receipts.{Accepts}

@@ -1,4 +1,4 @@
-use Rattle.std.proofs.Common.{◌≡◌, List, ℕ, Option, Some, sym, ap, subst, ◌∙◌}
+use Rattle.std.proofs.Common.{◌≡◌, List, ℕ, Option, sym, subst, ◌∙◌}
 use Rattle.std.specs.Option.{option_map}
 use Rattle.nim_base.specs.declared.text.Text.{Text}
 use Rattle.statement.specs.Receipt.{Receipt}

@@ -1,9 +1,8 @@
-use Rattle.std.proofs.Common.{◌≡◌, ℕ, ◌+◌, ◌<◌, List, length, refl, sym, ap, subst, ◌∙◌}
-use Rattle.statement.specs.declared.member.Member.{Member}
+use Rattle.std.proofs.Common.{◌≡◌, ℕ, ◌<◌, List, length, sym, ap, subst, ◌∙◌}
 use Rattle.port.specs.declared.key.Key.TheVariants as keys
 use Rattle.port.specs.declared.store_answers.Got.{Got}
 use Rattle.port.specs.Store.{StoreStep, Get, WasGot}
-use Rattle.port.specs.Trace.{Event, AtStore}
+use Rattle.port.specs.Trace.{AtStore}
 use Rattle.op_entry.specs.RefreshState.{RefreshState, AtView, AtFinals, calls_left, state_of}
 use Rattle.op_entry.specs.RefreshTurn.{GoesAtFinals}
 use Rattle.op_entry.specs.RefreshSound.{Goes, Leads, key_of}
