@@ -1,0 +1,6 @@
+pub mod State
+pub mod Told
+pub mod OwnCalls
+pub mod Says
+pub mod Sound
+pub mod Turn
