@@ -16,8 +16,9 @@ use Rattle.catch_up.specs.declared.stage.Stage.{Stage}
 use Rattle.catch_up.specs.declared.stage.Stage.TheVariants as stages
 use Rattle.catch_up.specs.State.{Target, State, calls_left_at}
 use Rattle.catch_up.specs.Told.{newer, count_in, told}
-use Rattle.catch_up.specs.OwnCalls.{JustGave, Gave, append_of}
-use Rattle.catch_up.specs.Says.{Says, ComesTo, DidCome}
+use Rattle.catch_up.specs.OwnCalls.{JustGave, Gave, HasCome, append_of}
+use Rattle.catch_up.specs.Answers.{ComesTo}
+use Rattle.catch_up.specs.Says.{Says, DidCome}
 use Rattle.catch_up.specs.Sound.{Sound, IsAt, Leads, GoesOn, Takes}
 
 -- a number is itself
@@ -49,13 +50,18 @@ at_store target from past height answer stages.Ended at on = tt
 
 -- what the next stage rests on after an append
 at_link : (target : Target) (from : ℕ) (past : List Event) (height : ℕ) (call : Call) (heard : Heard) (stage : Stage)
-    → GoesOn target height (AtLink target.member call heard) stage → IsAt target from (AtLink target.member call heard ∷ past) stage
-at_link target from past height call heard (stages.Get count) on =
+    → height ≡ told target.member from past → GoesOn target height (AtLink target.member call heard) stage
+    → IsAt target from (AtLink target.member call heard ∷ past) stage
+at_link target from past height call heard (stages.Get count) at on =
     let came = on.2 in
-    subst (λ (event : Event). count ≡ told target.member from (event ∷ past)) (sym came.1.1)
-    (told_now target.member from past height came.1.0 came.0 count came.2)
-at_link target from past height call heard (stages.Append block) on = absurd on.2.1
-at_link target from past height call heard stages.Ended on = tt
+    let now = told_now target.member from past height came.1.0 came.0 count came.2 in
+    subst (λ (event : Event). (count ≡ told target.member from (event ∷ past)) × HasCome target.member from (event ∷ past)) (sym came.1.1) (
+      now,
+      subst (λ (h : ℕ). ComesTo h came.0 (told target.member from (AtLink target.member came.1.0 (Answered came.0) ∷ past))) at
+          (subst (λ (n : ℕ). ComesTo height came.0 n) now came.2),
+    )
+at_link target from past height call heard (stages.Append block) at on = absurd on.2.1
+at_link target from past height call heard stages.Ended at on = tt
 
 -- a get leads on
 pub leads_by_get : (old new : State) (height : ℕ) (got : Got) (result : Result Progress NoMemory) → old.stage ≡ stages.Get height → new.target ≡ old.target
@@ -63,13 +69,13 @@ pub leads_by_get : (old new : State) (height : ℕ) (got : Got) (result : Result
     → Leads old (AtStore (Get (keys.Row old.target.handle height)) (WasGot got)) new result
 leads_by_get old new height got result is same_target takes target from past =
     aimed target from old new past _ result (λ sound.
-    let at : height ≡ told old.target.member from past = subst (λ (s : Stage). IsAt old.target from past s) is sound.at in (
+    let at = subst (λ (s : Stage). IsAt old.target from past s) is sound.at in (
       record {
         aims = same_target;
-        own = ((refl, at, takes.below), sound.own);
-        at = at_store old.target from past height (WasGot got) new.stage at takes.goes_on;
+        own = ((refl, at.0, takes.below, at.1), sound.own);
+        at = at_store old.target from past height (WasGot got) new.stage at.0 takes.goes_on;
       },
-      subst (λ (h : ℕ). Says old.target h (AtStore (Get (keys.Row old.target.handle height)) (WasGot got)) result) at takes.says,
+      subst (λ (h : ℕ). Says old.target h (AtStore (Get (keys.Row old.target.handle height)) (WasGot got)) result) at.0 takes.says,
     ))
 
 -- an append leads on
@@ -82,7 +88,7 @@ leads_by_append old new block heard result is same_target takes target from past
       record {
         aims = same_target;
         own = ((refl, refl, at.0, takes.below, (at.1.0, at.1.1, ap (λ (b : MetaBlock). b.prev) at.1.2, ap (λ (b : MetaBlock). b.entry) at.1.2)), sound.own);
-        at = at_link old.target from past block.height (append_of old.target.handle block) heard new.stage takes.goes_on;
+        at = at_link old.target from past block.height (append_of old.target.handle block) heard new.stage at.0 takes.goes_on;
       },
       subst (λ (h : ℕ). Says old.target h (AtLink old.target.member (append_of old.target.handle block) heard) result) at.0 takes.says,
     ))

@@ -1,13 +1,13 @@
 -- What the answer to a step says of the call that was made.
-use Rattle.std.specs.Prelude.{◌≡◌, ◌≢◌, ◌⊎◌, ℕ, ◌+◌, ◌≤◌, ◌<◌, true, List, Option, Some, None, Result, Ok, Err, replicate}
+use Rattle.std.specs.Prelude.{◌≡◌, ◌⊎◌, ℕ, ◌<◌, true, List, Some, Result, Ok, Err}
 use Rattle.nim_base.specs.declared.no_memory.NoMemory.{NoMemory as MemoryWanted}
 use Rattle.port.specs.declared.key.Key.TheVariants as keys
 use Rattle.port.specs.declared.store_answers.Got.TheVariants as gots
-use Rattle.port.specs.Answer.{Denial, Behind, Stands, Answer, Signed, Refused}
+use Rattle.port.specs.Answer.{Answer, Refused, Stands}
 use Rattle.port.specs.Call.{Call}
-use Rattle.port.specs.Cause.{MemberCause, WasLost, Denied, OtherTail, member_cause_of, Cause, StoreFault, Gap, BadRow, cause_of}
+use Rattle.port.specs.Cause.{member_cause_of, Cause, StoreFault, Gap, BadRow, cause_of}
 use Rattle.port.specs.GoodRow.{IsBadRow}
-use Rattle.port.specs.Heard.{Heard, Answered, Lost, NoMemory}
+use Rattle.port.specs.Heard.{Heard, Answered, NoMemory}
 use Rattle.port.specs.Row.{Content}
 use Rattle.port.specs.Stored.{Stored}
 use Rattle.port.specs.Store.{StoreCall, StoreAnswer, Get, WasGot, is_failed}
@@ -15,34 +15,8 @@ use Rattle.port.specs.Trace.{Event, AtStore, AtLink}
 use Rattle.catch_up.specs.declared.progress.Progress.{Progress}
 use Rattle.catch_up.specs.declared.progress.Progress.TheVariants.{More, Reached, Ahead, Member, Row}
 use Rattle.catch_up.specs.State.{Target}
-use Rattle.catch_up.specs.Told.{count_of}
+use Rattle.catch_up.specs.Answers.{ComesTo, IsReason}
 use Rattle.catch_up.specs.OwnCalls.{Gave}
-
--- an answer to an append at the height by which the member has come to this count
-abbrev pub ComesTo : ℕ → Answer → ℕ → Type 0
-ComesTo height (Signed statement sig) count = (count ≡ height + 1) × (count_of statement ≡ Some count)
-ComesTo height (Refused (Stands standing tail)) count = (count ≡ standing) × (height < count)
-ComesTo height answer count = ⊥
-
--- a refusal that has its place as an answer to an append at the height, and by which the member has not come further
-abbrev pub IsRefusal : ℕ → Denial → Type 0
-IsRefusal height (Behind count) = count < height
-IsRefusal height (Stands count tail) = count ≤ height
-IsRefusal height denial = Unit {0}
-
--- an answer that is none to an append at the height
-abbrev pub IsOutOfPlace : ℕ → Answer → Type 0
-IsOutOfPlace height (Signed statement sig) = count_of statement ≢ Some (height + 1)
-IsOutOfPlace height (Refused (Behind count)) = height ≤ count
-IsOutOfPlace height (Refused denial) = ⊥
-IsOutOfPlace height answer = Unit {0}
-
--- what was heard of an append at the height is this reason
-abbrev pub IsReason : ℕ → Heard → MemberCause → Type 0
-IsReason height Lost WasLost = Unit {0}
-IsReason height (Answered (Refused denial)) (Denied reason) = (reason ≡ denial) × IsRefusal height denial
-IsReason height (Answered answer) (OtherTail count tail) = IsOutOfPlace height answer × (count ≡ 0) × (tail ≡ replicate 32 0)
-IsReason height heard reason = ⊥
 
 -- in this call the member answered so
 abbrev pub DidAnswer : ℕ → Event → Answer → Type 0

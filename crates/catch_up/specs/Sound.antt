@@ -10,12 +10,12 @@ use Rattle.catch_up.specs.declared.stage.Stage.{Stage}
 use Rattle.catch_up.specs.declared.stage.Stage.TheVariants.{Get, Append, Ended}
 use Rattle.catch_up.specs.State.{Target, State, is_live_at}
 use Rattle.catch_up.specs.Told.{told}
-use Rattle.catch_up.specs.OwnCalls.{JustGave, Gave, OwnCalls}
+use Rattle.catch_up.specs.OwnCalls.{JustGave, Gave, HasCome, OwnCalls}
 use Rattle.catch_up.specs.Says.{Says, DidCome}
 
--- what a stage rests on: the count that was told last, and the row that was given just now
+-- what a stage rests on: the count to which the member has come, and the row that was given just now
 abbrev pub IsAt : Target → ℕ → List Event → Stage → Type 0
-IsAt target from past (Get height) = height ≡ told target.member from past
+IsAt target from past (Get height) = (height ≡ told target.member from past) × HasCome target.member from past
 IsAt target from past (Append block) =
     (block.height ≡ told target.member from past) × ((row : Content) × JustGave target.handle block.height past row × (block ≡ row.metablock))
 IsAt target from past Ended = Unit {0}

@@ -7,9 +7,11 @@
 #![tactic(auto)]
 
 mod catch_up;
+mod laws;
 mod progress;
 mod stage;
 mod turn;
 
 pub use catch_up::CatchUp;
+pub use laws::{answers_are_shown, calls_are_own, counts_are_told_on};
 pub use progress::Progress;
