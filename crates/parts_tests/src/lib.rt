@@ -4,6 +4,8 @@
 #![tactic(auto)]
 
 #[cfg(test)]
+mod catch_ups;
+#[cfg(test)]
 mod cells;
 #[cfg(test)]
 mod clocks;
