@@ -5,3 +5,11 @@ pub mod RefreshSays
 pub mod RefreshTurn
 pub mod RefreshSound
 pub mod Walk
+pub mod RoundAsking
+pub mod RoundOutcome
+pub mod RoundTurn
+pub mod RoundState
+pub mod RoundSteps
+pub mod RoundSound
+pub mod RoundLaws
+pub mod RoundRefusal
