@@ -2,6 +2,8 @@ ghost use Rattle.std.specs.Prelude.{◌≡◌, IfOk, take};
 ghost use Rattle.fault_script.specs.Script.{is_plain, script_of};
 ghost use Rattle.fault_script.specs.Seen.{commands_of};
 ghost use Rattle.fault_script.specs.Spelling.{text_of};
+ghost use Rattle.fault_script.specs.Within.{IsWithin};
+ghost use Rattle.std.specs.List.{AllByRecursion};
 
 use crate::line::Line;
 use crate::writing::write_lines;
@@ -68,9 +70,11 @@ impl Script {
         Script { lines }
     }
 
-    /// The lines, `end` last.
+    /// The lines, `end` last. Each keeps the limits of its words.
     pub fn lines(&self) -> &[Line]
-        ensures { commands_of result.now ≡ self.now }
+        ensures lines { commands_of result.now ≡ self.now }
+        ensures script { script_of (text_of self.now) ≡ Ok self.now }
+        ensures within { AllByRecursion IsWithin self.now }
     {
         &self.lines
     }
