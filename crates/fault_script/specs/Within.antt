@@ -1,5 +1,6 @@
--- The limits that each command of a script keeps.
-use Rattle.std.specs.Prelude.{ℕ, ◌<◌, ◌≤◌, List, [], ◌∷◌, length}
+-- What holds of each command of a script after those before it.
+use Rattle.std.specs.Prelude.{◌≡◌, ◌==◌, ℕ, ◌<◌, ◌≤◌, Bool, true, false, List, [], ◌∷◌, ◌++◌, length, None}
+use Rattle.fault_script.specs.Line.{fault_after, has_ended}
 use Rattle.fault_script.specs.Command.{Request, New, Append, Latest, At, Reconfigure, Command, Genesis, Plain, Restart, Begin, Step, Finish, Retry, LoseRequest, LoseReply, StoreFail, StoreHide, StoreStale, StoreFork, StoreHonest, RawAppend, RawLatest, RawShow, RawFinalize, Offer, Forge, End}
 
 -- each number is above the one before and at most 64
@@ -43,3 +44,20 @@ IsWithin (RawFinalize id ids) = IsFrom 1 64 id × AreIds ids
 IsWithin (Offer op ids) = AreIds ids
 IsWithin (Forge op count ids) = (count ≤ 4294967296) × AreIds ids
 IsWithin End = Unit {0}
+
+abbrev pub is_genesis : Command → Bool
+is_genesis (Genesis ids) = true
+is_genesis _ = false
+
+-- what holds of a command after these: its limits; it is `genesis` just where it is the first; no `end` stands before it;
+-- its label, its operation and its kind forbid it nothing
+pub record Fits (earlier : List Command) (command : Command) : Type 0 where
+  pub limits : IsWithin command
+  pub first : is_genesis command ≡ (length earlier == 0)
+  pub going : has_ended earlier ≡ false
+  pub good : fault_after earlier command ≡ None
+
+-- each command fits after those before it
+abbrev pub AllFit : List Command → List Command → Type 0
+AllFit earlier [] = Unit {0}
+AllFit earlier (command ∷ commands) = Fits earlier command × AllFit (earlier ++ command ∷ []) commands
