@@ -15,3 +15,5 @@ mod SpelledRaws
 mod SpelledLines
 mod Texts
 mod Again
+mod WordLimits
+mod CommandLimits

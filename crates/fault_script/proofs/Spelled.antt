@@ -54,7 +54,7 @@ digits_spelled word h small =
     (λ zero. eqb-true (length word) 1 (or_not (eqb (length word) 1) (eqb (get_or word 0 0) 48) q.1 (ap (λ b. eqb b 48) zero)))
     small
 
-same_value : (one other : ℕ) → ◌≡◌ {A = Option ℕ} (Some one) (Some other) → one ≡ other
+pub same_value : (one other : ℕ) → ◌≡◌ {A = Option ℕ} (Some one) (Some other) → one ≡ other
 same_value one other h = cc
 
 pub within_spelled : (low high : ℕ) (word : List ℕ) (n : ℕ) → high < 2 ^ 64 → number_within low high word ≡ Some n → decimal n ≡ word
@@ -68,7 +68,7 @@ within_spelled low high word n limit h =
 pub number_spelled : (low high : ℕ) (word : List ℕ) (n : ℕ) → high < 2 ^ 64 → number_in low high word ≡ Ok n → decimal n ≡ word
 number_spelled low high word n limit h = within_spelled low high word n limit (ok_or_some (number_within low high word) _ n h)
 
-after : (o : Option ℕ) (f : ℕ → Option (List ℕ)) (y : List ℕ) → option_and_then f o ≡ Some y → (x : ℕ) × (o ≡ Some x) × (f x ≡ Some y)
+pub after : (o : Option ℕ) (f : ℕ → Option (List ℕ)) (y : List ℕ) → option_and_then f o ≡ Some y → (x : ℕ) × (o ≡ Some x) × (f x ≡ Some y)
 after None f y h = cc
 after (Some x) f y h = (x, refl, h)
 

@@ -83,7 +83,7 @@ alone_written first ended line command h =
     let ordered = if_not_ok (is_out_of_order first ended (word_at (words line) 0)) (command_of_words (words line)) causes.Order command text.1 in
     words_written (words line) command ordered ∙ join_with_byte-slice_split 32 line
 
-kept : (fault : Option BadCause) (one command : Command) → unless fault one ≡ Ok command → one ≡ command
+pub kept : (fault : Option BadCause) (one command : Command) → unless fault one ≡ Ok command → one ≡ command
 kept None one command h = cc
 kept (Some cause) one command h = cc
 

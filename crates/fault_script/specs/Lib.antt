@@ -11,3 +11,4 @@ pub mod Line
 pub mod Script
 pub mod Kept
 pub mod Spelling
+pub mod Within

@@ -1,7 +1,9 @@
-ghost use Rattle.std.specs.Prelude.{◌≡◌, IfOk, take};
+ghost use Rattle.std.specs.Prelude.{◌≡◌, [], true, IfOk, take};
 ghost use Rattle.fault_script.specs.Script.{is_plain, script_of};
 ghost use Rattle.fault_script.specs.Seen.{commands_of};
 ghost use Rattle.fault_script.specs.Spelling.{text_of};
+ghost use Rattle.fault_script.specs.Line.{has_ended};
+ghost use Rattle.fault_script.specs.Within.{AllFit};
 
 use crate::line::Line;
 use crate::writing::write_lines;
@@ -68,9 +70,13 @@ impl Script {
         Script { lines }
     }
 
-    /// The lines, `end` last.
+    /// The lines. Each keeps the limits of its words and fits after those before it: `genesis` is the
+    /// first, `end` the last, and no label or operation is misused.
     pub fn lines(&self) -> &[Line]
-        ensures { commands_of result.now ≡ self.now }
+        ensures lines { commands_of result.now ≡ self.now }
+        ensures script { script_of (text_of self.now) ≡ Ok self.now }
+        ensures fits { AllFit [] self.now }
+        ensures ended { has_ended self.now ≡ true }
     {
         &self.lines
     }
