@@ -7,3 +7,4 @@ pub mod RoundParted
 pub mod RoundOwn
 pub mod RoundReceipt
 pub mod RoundBehind
+pub mod Walking

@@ -13,3 +13,4 @@ pub mod RoundSteps
 pub mod RoundSound
 pub mod RoundLaws
 pub mod RoundRefusal
+pub mod WalkSound

@@ -10,7 +10,8 @@
 //!   the receipt that is attached to a row.
 //!
 //! What a part has done is the list of its calls, the newest first; its invariant says what they were and what they made
-//! of it. [`round_calls_are_own`] and [`members_are_shown`] say what follows for each call, mark and reason of a round.
+//! of it. [`round_calls_are_own`] and [`members_are_shown`] say what follows for each call, mark and reason of a round, and
+//! [`walks_link`] that the metablocks of a walk lead from one tail to the other.
 
 #![tactic(auto)]
 
@@ -26,6 +27,7 @@ mod round_stage;
 mod round_turn;
 mod round_verdict;
 mod walk;
+mod walk_laws;
 
 pub use attachment::{Head, accepted_receipt};
 pub use refresh::Refresh;
@@ -35,3 +37,4 @@ pub use round_laws::{members_are_shown, members_tell_counts, round_calls_are_own
 pub use round_progress::RoundProgress;
 pub use round_refusal::{Contention, first_above, refusal_of};
 pub use walk::{MAX_BLOCKS, Walk, WalkProgress};
+pub use walk_laws::walks_link;
