@@ -22,6 +22,8 @@ mod passes;
 #[cfg(test)]
 mod refreshes;
 #[cfg(test)]
+mod refused_forms;
+#[cfg(test)]
 mod replies;
 #[cfg(test)]
 mod rows;

@@ -3,7 +3,7 @@ ghost use Rattle.port.specs.FinalsForm.{AreFinals};
 
 use crate::hexadecimal::bytes;
 use chain_block::{Entry, MetaBlock};
-use nim_base::{Digest, FormFault, NoMemory, Nonce, Text};
+use nim_base::{Digest, NoMemory, Nonce, Text};
 use port::{
     ActivationProof, Chain, FinalMap, FinalMark, LatestReply, Row, Standing, ViewRow, read_finals,
     read_view, write_finals, write_view,
@@ -16,33 +16,33 @@ use tail_map::{TailMap, TailRow};
 // The bytes and digests below were worked out with Python's struct and hashlib, by the forms that the
 // crate's pages give.
 
-const ZEROS: &str = "0000000000000000000000000000000000000000000000000000000000000000";
+pub(crate) const ZEROS: &str = "0000000000000000000000000000000000000000000000000000000000000000";
 
-const ONES: &str = "0101010101010101010101010101010101010101010101010101010101010101";
+pub(crate) const ONES: &str = "0101010101010101010101010101010101010101010101010101010101010101";
 
 const TWOS: &str = "0202020202020202020202020202020202020202020202020202020202020202";
 
-const THREES: &str = "0303030303030303030303030303030303030303030303030303030303030303";
+pub(crate) const THREES: &str = "0303030303030303030303030303030303030303030303030303030303030303";
 
 const FOURS: &str = "0404040404040404040404040404040404040404040404040404040404040404";
 
 const FIVES: &str = "0505050505050505050505050505050505050505050505050505050505050505";
 
-const SEVENS: &str = "07070707070707070707070707070707";
+pub(crate) const SEVENS: &str = "07070707070707070707070707070707";
 
-const EIGHTS: &str = "08080808080808080808080808080808";
+pub(crate) const EIGHTS: &str = "08080808080808080808080808080808";
 
-const ZERO: &str = "0000000000000000";
+pub(crate) const ZERO: &str = "0000000000000000";
 
 const COUNT: &str = "0000000000000102";
 
 /// The digests of the entries below.
-const FIRST: &str = "4dad77cb60e7cafa6d50fd9e6327806a67fad645c6a7ab9e37dc3bdacaa0d44c";
+pub(crate) const FIRST: &str = "4dad77cb60e7cafa6d50fd9e6327806a67fad645c6a7ab9e37dc3bdacaa0d44c";
 
 const LATER: &str = "d8f7aea8cefe4d2fc82dd20296fbc17a212613519a6be4ec8db38b9832b3af02";
 
 /// The row of the first entry with the payload `hi`.
-const FIRST_ROW: &[&str] = &[
+pub(crate) const FIRST_ROW: &[&str] = &[
     "50", "00000017", "01", SEVENS, "00000002", "6869", "10", ZEROS, FIRST, ZERO,
 ];
 
@@ -52,7 +52,7 @@ const LATER_ROW: &[&str] = &[
 ];
 
 /// The digest of the config of the members 1 and 2, whose keys are the digests of ones and twos.
-const CONFIG: &str = "4e8baf9874ffc2f6c6c1e687ac59be7feb0c96be385137f406276fef867074d7";
+pub(crate) const CONFIG: &str = "4e8baf9874ffc2f6c6c1e687ac59be7feb0c96be385137f406276fef867074d7";
 
 /// View 0 with that config.
 const VIEW: &[&str] = &[
@@ -185,14 +185,6 @@ fn receipt(alloc: Global) -> Result<Receipt, NoMemory> {
     })
 }
 
-/// What a reader says of bytes: none where they are read, or the fault that they show first.
-fn fault<T: Drop>(read: Result<T, FormFault>) -> Option<FormFault> {
-    match read {
-        Ok(_) => None,
-        Err(fault) => Some(fault),
-    }
-}
-
 #[test]
 fn rows_have_these_bytes(rt: HostRuntime) -> Result<(), Fail> {
     let alloc = rt.alloc();
@@ -230,73 +222,6 @@ fn rows_tell_what_their_entries_are(rt: HostRuntime) -> Result<(), Fail> {
 }
 
 #[test]
-fn rows_are_read_or_refused(rt: HostRuntime) -> Result<(), Fail> {
-    let alloc = rt.alloc();
-    let head = "0107070707070707070707070707070707";
-    for (parts, answer) in [
-        (FIRST_ROW, None),
-        (&[], Some(FormFault::Short)),
-        (&["51"], Some(FormFault::Kind)),
-        (&["50"], Some(FormFault::Short)),
-        (&["50", "000000"], Some(FormFault::Short)),
-        (&["50", "00000000"], Some(FormFault::Value)),
-        (&["50", "ffffffff", "01"], Some(FormFault::Short)),
-        (
-            &["50", "00000017", head, "00000002", "68"],
-            Some(FormFault::Short),
-        ),
-        // The whole field is no entry's: one byte is missing, one is too many, the kind is another, or
-        // the height is 0.
-        (
-            &["50", "00000016", head, "00000002", "68"],
-            Some(FormFault::Value),
-        ),
-        (
-            &["50", "00000018", head, "00000002", "6869", "00"],
-            Some(FormFault::Value),
-        ),
-        (
-            &["50", "00000017", "03", SEVENS, "00000002", "6869"],
-            Some(FormFault::Value),
-        ),
-        (
-            &["50", "0000003d", "02", THREES, ZERO, EIGHTS, "00000000"],
-            Some(FormFault::Value),
-        ),
-        (
-            &["50", "00000017", head, "00000002", "6869"],
-            Some(FormFault::Short),
-        ),
-        (
-            &["50", "00000017", head, "00000002", "6869", "11", ZEROS],
-            Some(FormFault::Short),
-        ),
-        (
-            &[
-                "50", "00000017", head, "00000002", "6869", "11", ZEROS, FIRST, ZERO,
-            ],
-            Some(FormFault::Value),
-        ),
-        (
-            &[
-                "50", "00000017", head, "00000002", "6869", "11", ZEROS, FIRST, ZERO, "00",
-            ],
-            Some(FormFault::Value),
-        ),
-        (
-            &[
-                "50", "00000017", head, "00000002", "6869", "10", ZEROS, FIRST, ZERO, "00",
-            ],
-            Some(FormFault::Trailing),
-        ),
-    ] {
-        let text = bytes(alloc, parts)?;
-        assert_eq!(rt; fault(Row::read(alloc, text.bytes())), answer, "{parts:?}");
-    }
-    Ok(())
-}
-
-#[test]
 fn views_have_these_bytes(rt: HostRuntime) -> Result<(), Fail> {
     let alloc = rt.alloc();
     let text = bytes(alloc, VIEW)?;
@@ -307,51 +232,6 @@ fn views_have_these_bytes(rt: HostRuntime) -> Result<(), Fail> {
     assert_eq!(rt; read_block, block(alloc)?);
     assert_eq!(rt; read_config.members().len(), 2);
     assert_eq!(rt; read_config.digest(), digest(alloc, CONFIG)?);
-    Ok(())
-}
-
-/// What stands behind the kind of a view.
-#[test]
-fn views_are_read_or_refused(rt: HostRuntime) -> Result<(), Fail> {
-    let alloc = rt.alloc();
-    for (parts, answer) in [
-        (
-            &["11", ZEROS, CONFIG, ZERO, "1201", "00000007", ONES][..],
-            None,
-        ),
-        (&[], Some(FormFault::Short)),
-        (&["11", ZEROS, CONFIG], Some(FormFault::Short)),
-        (&["10", ZEROS, CONFIG], Some(FormFault::Short)),
-        (&["10", ZEROS, CONFIG, ZERO], Some(FormFault::Value)),
-        (
-            &["10", ZEROS, CONFIG, ZERO, "1201", "00000007", ONES, "00"],
-            Some(FormFault::Value),
-        ),
-        (&["11", ZEROS, CONFIG, ZERO], Some(FormFault::Short)),
-        (&["11", ZEROS, CONFIG, ZERO, "13"], Some(FormFault::Value)),
-        (&["11", ZEROS, CONFIG, ZERO, "1200"], Some(FormFault::Value)),
-        (&["11", ZEROS, CONFIG, ZERO, "1210"], Some(FormFault::Value)),
-        (
-            &["11", ZEROS, CONFIG, ZERO, "1201", "00000007", "01"],
-            Some(FormFault::Short),
-        ),
-        (
-            &[
-                "11", ZEROS, CONFIG, ZERO, "1202", "00000007", ONES, "00000007",
-            ],
-            Some(FormFault::Value),
-        ),
-        (
-            &["11", ZEROS, CONFIG, ZERO, "1201", "00000007", ONES, "00"],
-            Some(FormFault::Trailing),
-        ),
-    ] {
-        let mut text = bytes(alloc, &["51"])?;
-        text.push(bytes(alloc, parts)?.bytes())?;
-        assert_eq!(rt; fault(read_view(alloc, text.bytes())), answer, "{parts:?}");
-    }
-    assert_eq!(rt; fault(read_view(alloc, &[])), Some(FormFault::Short));
-    assert_eq!(rt; fault(read_view(alloc, &[0x50])), Some(FormFault::Kind));
     Ok(())
 }
 
@@ -369,80 +249,6 @@ fn finals_have_these_bytes(rt: HostRuntime) -> Result<(), Fail> {
     assert_eq!(rt; read[1].id, 258);
     assert_eq!(rt; read[1].sig.bytes(), [5; 32].as_slice());
     assert_eq!(rt; read[1].map.rows().len(), 0);
-    Ok(())
-}
-
-/// What stands behind the kind of finals.
-#[test]
-fn finals_are_read_or_refused(rt: HostRuntime) -> Result<(), Fail> {
-    let alloc = rt.alloc();
-    let one = "000000010001ff000000053000000000";
-    for (parts, answer) in [
-        (&["01", one][..], None),
-        (&[], Some(FormFault::Short)),
-        (&["00"], Some(FormFault::Value)),
-        (&["10"], Some(FormFault::Value)),
-        (&["01"], Some(FormFault::Short)),
-        (&["01", "000000"], Some(FormFault::Short)),
-        (&["01", "00000001", "00"], Some(FormFault::Short)),
-        (&["01", "00000001", "0000"], Some(FormFault::Value)),
-        (&["01", "00000001", "4001"], Some(FormFault::Value)),
-        (&["01", "00000001", "4000", "ff"], Some(FormFault::Short)),
-        (&["01", "00000001", "0001", "ff"], Some(FormFault::Short)),
-        (
-            &["01", "00000001", "0001", "ff", "000000"],
-            Some(FormFault::Short),
-        ),
-        (
-            &["01", "00000001", "0001", "ff", "00000000"],
-            Some(FormFault::Value),
-        ),
-        (
-            &["01", "00000001", "0001", "ff", "00000005", "31000000"],
-            Some(FormFault::Short),
-        ),
-        (
-            &["01", "00000001", "0001", "ff", "00000005", "3100000000"],
-            Some(FormFault::Value),
-        ),
-        (
-            &["01", "00000001", "0001", "ff", "00000004", "30000000"],
-            Some(FormFault::Value),
-        ),
-        (
-            &["01", "00000001", "0001", "ff", "00000006", "300000000000"],
-            Some(FormFault::Value),
-        ),
-        // A map that doesn't read comes before what the next final shows.
-        (
-            &[
-                "02",
-                "00000001",
-                "0001",
-                "ff",
-                "00000005",
-                "3100000000",
-                "00000001",
-            ],
-            Some(FormFault::Value),
-        ),
-        (&["02", one], Some(FormFault::Short)),
-        (&["02", one, "00000001"], Some(FormFault::Order)),
-        (&["02", one, "00000000", "0000"], Some(FormFault::Order)),
-        (&["02", one, "00000002"], Some(FormFault::Short)),
-        (&["02", one, "00000002", "0000"], Some(FormFault::Value)),
-        (&["01", one, "00"], Some(FormFault::Trailing)),
-    ] {
-        let mut text = bytes(alloc, &["31"])?;
-        text.push(bytes(alloc, parts)?.bytes())?;
-        assert_eq!(rt;
-            fault(read_finals(alloc, text.bytes())),
-            answer,
-            "{parts:?}"
-        );
-    }
-    assert_eq!(rt; fault(read_finals(alloc, &[])), Some(FormFault::Short));
-    assert_eq!(rt; fault(read_finals(alloc, &[0x30])), Some(FormFault::Kind));
     Ok(())
 }
 
