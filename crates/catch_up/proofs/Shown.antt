@@ -49,7 +49,7 @@ member_shown target height event past cause says =
     subst (λ (e : Event). IsMemberShown (e ∷ past) target.member cause) (sym says.2) (reason_shown target.member past says.0 height says.1 cause says.3)
 
 pub row_shown : (handle : List ℕ) (height : ℕ) (event : Event) (past : List Event) (cause : Cause) → IsRowRefused handle height event cause → IsShown (event ∷ past) cause
-row_shown handle height event past StoreFault says = (says.0, says.1, inl says.2, says.3)
+row_shown handle height event past StoreFault says = (Get (keys.Row handle height), WasGot gots.Failed, inl says, refl)
 row_shown handle height event past (Gap ledger missing) says =
     let ledger_is : ledger ≡ handle = says.0 in
     let missing_is : missing ≡ height = says.1 in

@@ -1,5 +1,5 @@
 -- What the answer to a step says of the call that was made.
-use Rattle.std.specs.Prelude.{◌≡◌, ◌⊎◌, ℕ, ◌<◌, true, List, Some, Result, Ok, Err}
+use Rattle.std.specs.Prelude.{◌≡◌, ◌⊎◌, ℕ, ◌<◌, List, Some, Result, Ok, Err}
 use Rattle.nim_base.specs.declared.no_memory.NoMemory.{NoMemory as MemoryWanted}
 use Rattle.port.specs.declared.key.Key.TheVariants as keys
 use Rattle.port.specs.declared.store_answers.Got.TheVariants as gots
@@ -10,7 +10,7 @@ use Rattle.port.specs.GoodRow.{IsBadRow}
 use Rattle.port.specs.Heard.{Heard, Answered, NoMemory}
 use Rattle.port.specs.Row.{Content}
 use Rattle.port.specs.Stored.{Stored}
-use Rattle.port.specs.Store.{StoreCall, StoreAnswer, Get, WasGot, is_failed}
+use Rattle.port.specs.Store.{Get, WasGot}
 use Rattle.port.specs.Trace.{Event, AtStore, AtLink}
 use Rattle.catch_up.specs.declared.progress.Progress.{Progress}
 use Rattle.catch_up.specs.declared.progress.Progress.TheVariants.{More, Reached, Ahead, Member, Row}
@@ -28,7 +28,7 @@ DidCome member height event count = (answer : Answer) × DidAnswer member event 
 
 -- in this call the store refused the row at the height for this cause
 abbrev pub IsRowRefused : List ℕ → ℕ → Event → Cause → Type 0
-IsRowRefused handle height event StoreFault = (call : StoreCall) × (answer : StoreAnswer) × (event ≡ AtStore call answer) × (is_failed answer ≡ true)
+IsRowRefused handle height event StoreFault = event ≡ AtStore (Get (keys.Row handle height)) (WasGot gots.Failed)
 IsRowRefused handle height event (Gap ledger missing) =
     (ledger ≡ handle) × (missing ≡ height) × (event ≡ AtStore (Get (keys.Row handle height)) (WasGot gots.None))
 IsRowRefused handle height event (BadRow key (Some bytes)) =

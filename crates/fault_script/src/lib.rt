@@ -5,6 +5,7 @@
 //! - [`Script`] is lines that read so. It gives its lines, tells whether it is plain, and is written
 //!   as text again.
 //! - [`Line`] is a line, and [`Act`] what a line asks of the service.
+//! - [`push_word`], [`push_number`], [`push_payload`] and [`push_ids`] write words as lines have them.
 //!
 //! The repository's page `docs/FORMATS.md` has the language.
 
@@ -23,6 +24,7 @@ mod reader;
 mod reading;
 pub mod script;
 pub mod script_fault;
+mod spelling;
 mod standing;
 mod words;
 mod writing;
@@ -33,3 +35,4 @@ pub use line::Line;
 pub use reading::read;
 pub use script::Script;
 pub use script_fault::ScriptFault;
+pub use spelling::{push_ids, push_number, push_payload, push_word};

@@ -1,18 +1,18 @@
-ghost use Rattle.std.specs.Prelude.{IfOk};
-ghost use Rattle.chain_block.specs.Entry.{IsWithinLimits};
-
 use crate::round::{Round, Size, show};
-use chain_block::{Entry, MetaBlock, tail_of};
-use nim_base::{Digest, NoMemory, Nonce, Text, digest_of};
+use chain_block::{MetaBlock, tail_of};
+use fixtures::{first, member, receipt};
+use nim_base::{Digest, NoMemory, digest_of};
 use port::{Row, Standing};
-use seal::{Checker, KeyBook, MacSigner, Signer};
-use statement::{Config, Mark, Member, Receipt, Statement};
+use seal::{Checker, KeyBook};
+use statement::{Config, Mark, Statement};
 use std::alloc::{AllocError, Global};
 use std::io;
 use std::rt::Clock as Timer;
 use std::time::Instant;
 use verifier::Verifier;
 use view_ledger::ViewChain;
+
+const PAYLOAD: u8 = b'p';
 
 /// Checks of a reply with a chain of 0 and of 1,000 metablocks, beside the digests and signatures that each
 /// one needs.
@@ -27,22 +27,6 @@ pub fn measure<R: Timer + Print>(rt: &R, alloc: Global, size: Size) -> io::Resul
 
 fn no_memory<T: Drop>(_: T) -> io::Error {
     io::Error::from(AllocError)
-}
-
-fn member(id: u32) -> Member {
-    Member {
-        id,
-        key: MacSigner::of_id(id).key(),
-    }
-}
-
-fn first(alloc: Global) -> Result<Entry, NoMemory>
-    ensures { IfOk result IsWithinLimits }
-{
-    Ok(Entry::Genesis {
-        nonce: Nonce([7; 16]),
-        payload: Text::of(alloc, b"a payload")?,
-    })
 }
 
 /// Blocks above the first, and the tail to which they lead.
@@ -61,18 +45,6 @@ fn blocks(alloc: Global, tail: Digest, above: u64) -> io::Result<(Vec<MetaBlock>
     Ok((blocks, prev))
 }
 
-fn receipt(alloc: Global, statement: Statement) -> io::Result<Receipt> {
-    let bytes = statement.bytes();
-    let mut marks = Vec::new(alloc);
-    for id in [1, 2] {
-        let sig = MacSigner::of_id(id)
-            .sign(alloc, bytes.as_slice())
-            .map_err(no_memory)?;
-        marks.push(Mark { id, sig })?;
-    }
-    Ok(Receipt { statement, marks })
-}
-
 /// A client of a view of three.
 fn client(alloc: Global) -> io::Result<Verifier<KeyBook>> {
     let members = [member(1), member(2), member(3)];
@@ -84,7 +56,7 @@ fn client(alloc: Global) -> io::Result<Verifier<KeyBook>> {
 
 /// The first row of a ledger.
 fn first_row(alloc: Global) -> Result<Row, NoMemory> {
-    let entry = first(alloc)?;
+    let entry = first(alloc, PAYLOAD)?;
     let metablock = MetaBlock {
         prev: Digest::ZERO,
         entry: entry.handle(),
@@ -106,7 +78,7 @@ fn reply(alloc: Global, view: Digest, row: Row, above: u64) -> io::Result<Standi
     Ok(Standing {
         row,
         chain,
-        receipt: receipt(alloc, statement)?,
+        receipt: receipt(alloc, statement, &[(1, 1), (2, 2)]).map_err(no_memory)?,
     })
 }
 
@@ -147,7 +119,7 @@ fn timed_checks<R: Timer>(
 
 fn timed_least<R: Timer>(rt: &R, alloc: Global, reply: &Standing, calls: u64) -> io::Result<Round> {
     let book = KeyBook::of_ids(alloc, &[1, 2, 3]).map_err(no_memory)?;
-    let entry = first(alloc).map_err(no_memory)?;
+    let entry = first(alloc, PAYLOAD).map_err(no_memory)?;
     let text = entry.write(alloc).map_err(no_memory)?;
     let begin = Instant::now(rt)?;
     let sum = least(&book, text.bytes(), reply, calls);

@@ -9,6 +9,7 @@
 mod checks;
 mod clock;
 mod endorser;
+mod operations;
 mod round;
 mod scripts;
 mod stores;
@@ -28,6 +29,7 @@ fn main(rt: HostRuntime) -> io::Result<()> {
     clock::measure(&rt, rt.alloc(), size)?;
     endorser::measure(&rt, rt.alloc(), size)?;
     checks::measure(&rt, rt.alloc(), size)?;
+    operations::measure(&rt, rt.alloc(), size)?;
     stores::measure(&rt, rt.alloc(), size)?;
     scripts::measure(&rt, rt.alloc(), size)
 }

@@ -1,40 +1,31 @@
-//! The operations of a service over a store and the links to its endorsers, one outside call a step: the parts that they
-//! share.
+//! The operations of a service over a store and the links to its endorsers, one outside call a step.
 //!
-//! - [`Refresh`] is the first part of every operation: the chain of views goes on by each view that the store marks as
-//!   complete.
-//! - [`Round`] appends one row to all members of a chain's newest view, member by member, and gives their marks and
-//!   the reasons of the others. [`refusal_of`] says why there is no quorum, from the reasons, and [`first_above`] who had
-//!   come further.
-//! - [`Walk`] goes up the rows of a ledger from one that has no receipt to the first that has one. [`accepted_receipt`] is
-//!   the receipt that is attached to a row.
+//! - [`NewOp`] makes a ledger with a first entry, [`AppendOp`] puts an entry above the newest one of its ledger, and [`AtOp`]
+//!   reads the entry of a ledger at a height.
+//! - [`LatestOp`], a read of a ledger's newest row, is that of `op_latest`.
 //!
-//! What a part has done is the list of its calls, the newest first; its invariant says what they were and what they made
-//! of it. [`round_calls_are_own`] and [`members_are_shown`] say what follows for each call, mark and reason of a round, and
-//! [`walks_link`] that the metablocks of a walk lead from one tail to the other.
+//! What an operation has done is the list of its calls, the newest first. Its invariant takes what was asked and the chain of views
+//! with which it began as arguments; each step makes one call more, and `into_parts` says what follows for the answer.
+//! [`entry_calls_are_own`] says which calls those are, and [`entry_refusals_are_shown`] that they show the cause of a refusal.
 
 #![tactic(auto)]
 
-mod attachment;
-mod refresh;
-mod refresh_stage;
-mod refresh_turn;
-mod round;
-mod round_laws;
-mod round_progress;
-mod round_refusal;
-mod round_stage;
-mod round_turn;
-mod round_verdict;
-mod walk;
-mod walk_laws;
+mod append_op;
+mod at_op;
+mod calls;
+mod entry_laws;
+mod finding;
+mod found;
+mod new_op;
+mod operation;
+mod own_row;
+mod settling;
+mod stage;
+mod turn;
+mod wanted;
 
-pub use attachment::{Head, accepted_receipt};
-pub use refresh::Refresh;
-pub use refresh_turn::RefreshProgress;
-pub use round::Round;
-pub use round_laws::{members_are_shown, members_tell_counts, round_calls_are_own};
-pub use round_progress::RoundProgress;
-pub use round_refusal::{Contention, first_above, refusal_of};
-pub use walk::{MAX_BLOCKS, Walk, WalkProgress};
-pub use walk_laws::walks_link;
+pub use append_op::AppendOp;
+pub use at_op::AtOp;
+pub use entry_laws::{entry_calls_are_own, entry_refusals_are_shown};
+pub use new_op::NewOp;
+pub use op_latest::LatestOp;

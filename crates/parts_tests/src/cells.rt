@@ -1,11 +1,12 @@
 ghost use Rattle.std.specs.Prelude.{◌≡◌, ◌≤◌, ◌^◌, []};
 
 use crate::endorser_calls::{
-    Seen, VIEW, activate, answer_seen, append, digest, finalize, first, first_call, held, latest,
-    latest_of, refusal_seen, show, step, with_proof,
+    IDS, Seen, VIEW, answer_seen, append, finalize, first, held, latest, latest_of, refusal_seen,
+    show, step, with_proof,
 };
 use endorser_cell::EndorserCell;
 use endorser_core::{CellAnswer, Endorser};
+use fixtures::{activate, digest, first_call};
 use nim_base::{Digest, NoMemory, digest_of};
 use port::{EndorserAnswer, EndorserCall, EndorserRefusal, Phase};
 use seal::{KeyBook, MacScheme, MacSigner};
@@ -134,8 +135,8 @@ fn calls_without_view(handle: Digest) -> [(EndorserCall, Seen); 5] {
 fn calls_with_view(alloc: Global, handle: Digest) -> Result<[(EndorserCall, Seen); 7], Fail> {
     let shown = Seen::Shown(Phase::Initialized, 0, Digest::ZERO, 0);
     Ok([
-        (first_call(alloc)?, Seen::Done),
-        (first_call(alloc)?, Seen::Done),
+        (first_call(alloc, &IDS)?, Seen::Done),
+        (first_call(alloc, &IDS)?, Seen::Done),
         (
             append(handle, Digest::ZERO, handle, 0),
             Seen::WrongPhase(Phase::Initialized),
@@ -151,7 +152,7 @@ fn calls_while_active(alloc: Global, handle: Digest) -> Result<[(EndorserCall, S
     let (zero, one) = (Digest::ZERO, digest(TAIL_1));
     Ok([
         (activate(digest(VIEW)), Seen::Done),
-        (first_call(alloc)?, Seen::Done),
+        (first_call(alloc, &IDS)?, Seen::Done),
         (with_proof(alloc, digest(VIEW))?, Seen::Done),
         (latest(handle), latest_of(handle, zero, 0)),
         (append(handle, zero, handle, 0), held(handle, one, 1)),

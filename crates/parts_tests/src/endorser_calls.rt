@@ -1,4 +1,5 @@
 use endorser_core::Endorser;
+use fixtures::{digest, first_call, member};
 use nim_base::{Digest, NoMemory, Nonce};
 use port::{ActivationProof, EndorserAnswer, EndorserCall, EndorserRefusal, Phase, ProofCause};
 use seal::{KeyBook, MacScheme, MacSigner, Scheme, Signer};
@@ -12,16 +13,10 @@ use tail_map::{TailMap, TailRow};
 /// The tail of view 0 of the ids 1, 2 and 3.
 pub(crate) const VIEW: &str = "c2ca55540c6a82c0f948fb05adfe074a226e38f6b963705c2dcce026de605b06";
 
-pub(crate) const NONCE: Nonce = Nonce([7; 16]);
+/// The members of the view.
+pub(crate) const IDS: [u32; 3] = [1, 2, 3];
 
-/// The digest that is written so, or zeros.
-pub(crate) fn digest(text: &str) -> Digest {
-    let mut bytes = [0; 32];
-    match hex::decode_to_slice(text, &mut bytes) {
-        Ok(()) => Digest(bytes),
-        Err(_) => Digest::ZERO,
-    }
-}
+pub(crate) const NONCE: Nonce = Nonce([7; 16]);
 
 /// An answer without its signature.
 #[derive(Clone, Copy, Debug, PartialEq, Eq)]
@@ -116,10 +111,6 @@ pub(crate) fn latest(handle: Digest) -> EndorserCall {
     }
 }
 
-pub(crate) fn activate(view: Digest) -> EndorserCall {
-    EndorserCall::Activate { view, proof: None }
-}
-
 pub(crate) fn finalize() -> EndorserCall {
     EndorserCall::Finalize {
         config: Digest::ZERO,
@@ -129,13 +120,6 @@ pub(crate) fn finalize() -> EndorserCall {
 
 pub(crate) fn show(handle: Digest) -> EndorserCall {
     EndorserCall::Show { handle }
-}
-
-pub(crate) fn member(id: u32) -> Member {
-    Member {
-        id,
-        key: MacSigner::of_id(id).key(),
-    }
 }
 
 pub(crate) fn initialize(
@@ -160,28 +144,14 @@ pub(crate) fn initialize(
     Ok(EndorserCall::Initialize { block, config, map })
 }
 
-/// Of the three members of the view, as it begins.
-pub(crate) fn first_call(alloc: Global) -> Result<EndorserCall, Fail> {
-    initialize(
-        alloc,
-        Digest::ZERO,
-        &[member(1), member(2), member(3)],
-        0,
-        &[],
-    )
-}
-
 pub(crate) fn first(alloc: Global) -> Result<Endorser<MacScheme>, NoMemory> {
-    let book = KeyBook::of_ids(alloc, &[1, 2, 3])?;
+    let book = KeyBook::of_ids(alloc, &IDS)?;
     Ok(Endorser::new(1, MacSigner::of_id(1), book))
 }
 
-/// Id 1, active in the view.
-pub(crate) fn active(alloc: Global) -> Result<Endorser<MacScheme>, Fail> {
-    let mut endorser = first(alloc)?;
-    endorser.step(alloc, &first_call(alloc)?)?;
-    endorser.step(alloc, &activate(digest(VIEW)))?;
-    Ok(endorser)
+/// The call that begins view 0 of three members.
+pub(crate) fn begin_view(alloc: Global) -> Result<EndorserCall, ConfigFault> {
+    first_call(alloc, &IDS)
 }
 
 /// The call with another config than that of its block.

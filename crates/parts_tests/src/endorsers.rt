@@ -1,10 +1,11 @@
 use crate::endorser_calls::{
-    Seen, VIEW, activate, active, answer_seen, append, digest, finalize, first, first_call, held,
-    initialize, latest, latest_of, member, row, show, step, with_config, with_proof,
+    IDS, Seen, VIEW, answer_seen, append, begin_view, finalize, first, held, initialize, latest,
+    latest_of, row, show, step, with_config, with_proof,
 };
 use crate::signing::{Counted, CountedScheme, OfOneByte};
 use chain_block::tail_of;
 use endorser_core::Endorser;
+use fixtures::{activate, active, digest, member};
 use nim_base::{Digest, digest_of};
 use port::{EndorserAnswer, EndorserCall, Phase, ProofCause};
 use seal::MacScheme;
@@ -34,7 +35,7 @@ const LATEST_2: &str = "d5292425891271c7d210181adf0d712ad5935a63ab4d619f8299dd43
 #[test]
 fn signed_statements(rt: HostRuntime) -> Result<(), Fail> {
     let alloc = rt.alloc();
-    let mut endorser = active(alloc)?;
+    let mut endorser = active(alloc, 1, &IDS)?;
     let handle = digest(ENTRY_0);
     assert_eq!(rt; handle, digest_of(b"first entry"));
     for (call, statement, expected) in [
@@ -77,10 +78,10 @@ fn without_a_view(rt: HostRuntime) -> Result<(), Fail> {
         key: member(2).key,
     };
     let later = initialize(alloc, Digest::ZERO, &three, 1, &[])?;
-    let mixed = with_config(alloc, first_call(alloc)?, &[member(2)])?;
+    let mixed = with_config(alloc, begin_view(alloc)?, &[member(2)])?;
     let stranger = initialize(alloc, Digest::ZERO, &[member(2), member(3)], 0, &[])?;
     let impostor = initialize(alloc, Digest::ZERO, &[other_key, member(2)], 0, &[])?;
-    let begins = first_call(alloc)?;
+    let begins = begin_view(alloc)?;
     for (call, answer) in [
         (
             show(handle),
@@ -117,12 +118,12 @@ fn with_a_view(rt: HostRuntime) -> Result<(), Fail> {
     let waits = Seen::WrongPhase(Phase::Initialized);
     let three = [member(1), member(2), member(3)];
     let rows = [row(handle, digest(TAIL_1))];
-    let begins = first_call(alloc)?;
-    let again = first_call(alloc)?;
+    let begins = begin_view(alloc)?;
+    let again = begin_view(alloc)?;
     let with_row = initialize(alloc, Digest::ZERO, &three, 0, &rows)?;
     let on_another = initialize(alloc, handle, &three, 0, &[])?;
     let later = initialize(alloc, Digest::ZERO, &three, 1, &[])?;
-    let mixed = with_config(alloc, first_call(alloc)?, &[member(1)])?;
+    let mixed = with_config(alloc, begin_view(alloc)?, &[member(1)])?;
     let proven = with_proof(alloc, digest(VIEW))?;
     for (call, answer) in [
         (begins, Seen::Done),
@@ -178,11 +179,11 @@ fn views_that_cannot_begin(rt: HostRuntime) -> Result<(), Fail> {
 #[test]
 fn while_active(rt: HostRuntime) -> Result<(), Fail> {
     let alloc = rt.alloc();
-    let mut endorser = active(alloc)?;
+    let mut endorser = active(alloc, 1, &IDS)?;
     let (handle, entry, zero) = (digest(ENTRY_0), digest(ENTRY_1), Digest::ZERO);
     let (one, two) = (digest(TAIL_1), digest(TAIL_2));
     let three = [member(1), member(2), member(3)];
-    let again = first_call(alloc)?;
+    let again = begin_view(alloc)?;
     let with_row = initialize(alloc, zero, &three, 0, &[row(handle, one)])?;
     let proven = with_proof(alloc, digest(VIEW))?;
     for (call, answer) in [
@@ -221,7 +222,7 @@ fn while_active(rt: HostRuntime) -> Result<(), Fail> {
 #[test]
 fn repeat(rt: HostRuntime) -> Result<(), Fail> {
     let alloc = rt.alloc();
-    let mut endorser = active(alloc)?;
+    let mut endorser = active(alloc, 1, &IDS)?;
     let (handle, entry) = (digest(ENTRY_0), digest(ENTRY_1));
     let (one, two) = (digest(TAIL_1), digest(TAIL_2));
     for (call, answer) in [
@@ -249,7 +250,7 @@ fn handle_of(number: u64) -> Digest {
 fn full(rt: HostRuntime) -> Result<(), Fail> {
     let alloc = rt.alloc();
     let zero = Digest::ZERO;
-    let mut endorser = active(alloc)?;
+    let mut endorser = active(alloc, 1, &IDS)?;
     for number in 0..4096 {
         let handle = handle_of(number);
         let call = append(handle, zero, handle, 0);

@@ -1,12 +1,8 @@
-//! What no contract says of signing, rows, the endorser, stores, views, replies, clocks, cells, banks, catch-ups, refreshes
-//! and clients' passes: outside vectors, whole exchanges, that ample memory suffices, and what only running threads show.
+//! What no contract says of signing, rows, the endorser, views, replies, clocks, cells and clients' passes: outside
+//! vectors, whole exchanges, that ample memory suffices, and what only running threads show.
 
 #![tactic(auto)]
 
-#[cfg(test)]
-mod banks;
-#[cfg(test)]
-mod catch_ups;
 #[cfg(test)]
 mod cells;
 #[cfg(test)]
@@ -20,18 +16,12 @@ mod hexadecimal;
 #[cfg(test)]
 mod passes;
 #[cfg(test)]
-mod refreshes;
-#[cfg(test)]
 mod refused_forms;
 #[cfg(test)]
 mod replies;
 #[cfg(test)]
 mod rows;
 #[cfg(test)]
-mod signed;
-#[cfg(test)]
 mod signing;
-#[cfg(test)]
-mod stores;
 #[cfg(test)]
 mod views;

@@ -2,9 +2,9 @@ ghost use Rattle.std.specs.Prelude.{◌≡◌, ℕ, List};
 ghost use Rattle.chain_block.specs.declared.entry.Entry.{Entry as Intent};
 ghost use Rattle.client_pass.specs.ClientList.{IsForEntry, IsForRead};
 
-use crate::signed::{finals, first, member, receipt, row};
 use chain_block::MetaBlock;
 use client_pass::{ClientPass, TakeFault, draws_stay};
+use fixtures::{finals, first, member, receipt, row};
 use nim_base::{Digest, NoMemory, Nonce};
 use port::{LatestReply, Standing, ViewRow};
 use seal::KeyBook;

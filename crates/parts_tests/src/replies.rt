@@ -1,5 +1,5 @@
-use crate::signed::{first, member, receipt, row};
 use chain_block::MetaBlock;
+use fixtures::{first, member, receipt, row};
 use nim_base::{Digest, Nonce};
 use port::{LatestReply, Row, Standing};
 use seal::KeyBook;

@@ -1,4 +1,4 @@
-use crate::signed::{finals, member, receipt};
+use fixtures::{finals, member, receipt};
 use nim_base::Digest;
 use port::ViewRow;
 use seal::KeyBook;

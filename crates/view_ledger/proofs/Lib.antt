@@ -1,3 +1,4 @@
 pub mod Weights
 pub mod Extending
 pub mod KeptViews
+pub mod NumberedViews

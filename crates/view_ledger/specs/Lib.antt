@@ -6,3 +6,4 @@ pub mod Tails
 pub mod Firsts
 pub mod Signers
 pub mod ReceiptLaws
+pub mod Numbered

@@ -1,9 +1,10 @@
-ghost use Rattle.std.specs.Prelude.{◌≡◌, ◌<◌, ◌++◌, ◌∷◌, [], length, map, Some, None, IfOk, IfSome, OnOk};
+ghost use Rattle.std.specs.Prelude.{◌≡◌, ◌<◌, ◌≤◌, ◌++◌, ◌∷◌, [], length, map, take, Some, None, IfOk, IfSome, OnOk};
 ghost use Rattle.std.specs.Result.{result_err};
-ghost use Rattle.view_ledger.specs.Views.{newest_tail, tail_of_view, number_of, next_block};
+ghost use Rattle.view_ledger.specs.Views.{newest_tail, newest_config, config_at, tail_of_view, number_of, next_block};
 ghost use Rattle.view_ledger.specs.Receipts.{receipt_outcome};
-ghost use Rattle.view_ledger.specs.Extension.{AreGenuine, extend_fault};
+ghost use Rattle.view_ledger.specs.Extension.{AreGenuine, extend_fault, final_bytes, finals_fault};
 ghost use Rattle.view_ledger.specs.Kept.{config_of, kept_chain, HaveTails, AreViews};
+ghost use Rattle.view_ledger.specs.Numbered.{block_at};
 
 use crate::finals::{finals_fault, first_not_genuine};
 use crate::marks::marks_fault;
@@ -115,6 +116,53 @@ pub(crate) fn tail_of_next<C: Checker>(
         return Err(ViewFault::NotGenuine { id });
     }
     Ok(tail)
+}
+
+/// The tail of the view below this place, zeros where there is none.
+fn tail_below(views: &[View], place: usize) -> Digest
+    requires tails { HaveTails views.now }
+    requires within { place ≤ length views.now }
+    ensures { result ≡ newest_tail (take place (map config_of views.now)) }
+{
+    if place == 0 {
+        return Digest::ZERO;
+    }
+    views[place - 1].tail
+}
+
+/// The block of the view at this place.
+pub(crate) fn block_at(views: &[View], place: usize) -> ViewBlock
+    requires tails { HaveTails views.now }
+    requires within { place < length views.now }
+    ensures { result ≡ block_at (map config_of views.now) place }
+{
+    ViewBlock {
+        prev: tail_below(views, place),
+        config: views[place].config.digest(),
+        number: place as u64,
+    }
+}
+
+/// The first cause for which the finals don't end the view below this place for the one that stands there.
+pub(crate) fn fault_at<C: Checker>(
+    checker: &C,
+    views: &[View],
+    place: usize,
+    finals: &[FinalMark],
+) -> Option<ViewFault>
+    requires tails { HaveTails views.now }
+    requires first { 1 ≤ place }
+    requires within { place < length views.now }
+    ensures { let below = take place (map config_of views.now) in result ≡ finals_fault (C.accepts checker.now) (newest_config below) (final_bytes below (config_at (map config_of views.now) place)) finals.now }
+{
+    let below = &views[place - 1];
+    finals_fault(
+        checker,
+        &below.config,
+        &below.tail,
+        &views[place].tail,
+        finals,
+    )
 }
 
 pub(crate) fn copy_views(alloc: Global, views: &[View]) -> Result<Vec<View>, NoMemory>

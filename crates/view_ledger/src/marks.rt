@@ -104,7 +104,8 @@ fn first_bad_mark<C: Checker>(
     None
 }
 
-fn weight_of_marks(config: &Config, marks: &[Mark]) -> usize
+/// What the members with these marks weigh together, each mark for itself.
+pub fn weight_of_marks(config: &Config, marks: &[Mark]) -> usize
     ensures { result ≡ weight_together config.now (map id_of marks.now) }
 {
     let mut got = 0;
@@ -115,7 +116,7 @@ fn weight_of_marks(config: &Config, marks: &[Mark]) -> usize
 }
 
 /// What the member with this id weighs, 0 where there is none.
-pub(crate) fn weight(config: &Config, id: u32) -> usize
+pub fn weight(config: &Config, id: u32) -> usize
     ensures weight { result ≡ unwrap_or (weight_of config.now id) 0 }
     ensures small { result ≤ 1 }
 {

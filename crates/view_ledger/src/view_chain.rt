@@ -1,18 +1,19 @@
-ghost use Rattle.std.specs.Prelude.{◌≡◌, ◌↔◌, ◌⊎◌, ◌+◌, ◌^◌, ◌<◌, ◌++◌, ◌∷◌, [], ℕ, length, slice_get, option_copied, Some, None, Ok, Err, IfOk, IfErr, IfSome, OnOk, OnErr};
+ghost use Rattle.std.specs.Prelude.{◌≡◌, ◌↔◌, ◌⊎◌, ◌+◌, ◌^◌, ◌<◌, ◌≤◌, ◌++◌, ◌∷◌, [], ℕ, length, slice_get, option_copied, Some, None, Ok, Err, IfOk, IfErr, IfSome, IfNone, OnOk, OnErr};
 ghost use Rattle.statement.specs.Statement.{view_of};
 ghost use Rattle.view_ledger.specs.declared.receipt_fault.ReceiptFault.TheVariants.{UnknownView};
 ghost use Rattle.view_ledger.specs.declared.view_fault.ViewFault.{ViewFault};
 ghost use Rattle.view_ledger.specs.Views.{newest_tail, tail_of_view, number_of};
 ghost use Rattle.view_ledger.specs.Receipts.{IsAcceptedIn, receipt_outcome};
 ghost use Rattle.view_ledger.specs.Extension.{AreGenuine, Follows, extended, start_outcome, extend_outcome};
+ghost use Rattle.view_ledger.specs.Numbered.{chain_below, row_at};
 
 use crate::finals::first_not_genuine;
-use crate::kept::{copy_views, find_view, first_view, judge, tail_of_next};
+use crate::kept::{block_at, copy_views, fault_at, find_view, first_view, judge, tail_of_next};
 use crate::receipt_fault::ReceiptFault;
 use crate::view::View;
 use crate::view_fault::ViewFault;
 use nim_base::{Digest, NoMemory};
-use port::ViewRow;
+use port::{FinalMark, ViewRow};
 use seal::Checker;
 use statement::{Config, Member, Receipt};
 use std::alloc::Global;
@@ -163,6 +164,39 @@ impl ViewChain {
             return None;
         }
         Some(&self.views[number].config)
+    }
+
+    /// The view of this number, for which these finals ended the one below.
+    pub fn row(
+        &self,
+        alloc: Global,
+        number: u64,
+        finals: Vec<FinalMark>,
+    ) -> Result<ViewRow, NoMemory>
+        requires { number < length self.now.configs }
+        ensures { IfOk result (λ row. row ≡ row_at self.now.configs number finals.items) }
+    {
+        let number = number as usize;
+        Ok(ViewRow {
+            block: block_at(self.views.as_slice(), number),
+            config: self.views[number].config.copy(alloc)?,
+            finals,
+        })
+    }
+
+    /// The first cause for which these finals don't end the view below that of this number for it. It takes no memory.
+    pub fn finals_fault<C: Checker>(
+        &self,
+        checker: &C,
+        number: u64,
+        finals: &[FinalMark],
+    ) -> Option<ViewFault>
+        requires first { 1 ≤ number }
+        requires known { number < length self.now.configs }
+        ensures none { IfNone result (Follows (C.accepts checker.now) (chain_below self.now number) (row_at self.now.configs number finals.now)) }
+        ensures fault { (fault : ViewFault) → (result ≡ Some fault) ↔ (extend_outcome (C.accepts checker.now) (chain_below self.now number) (row_at self.now.configs number finals.now) ≡ Err fault) }
+    {
+        fault_at(checker, self.views.as_slice(), number as usize, finals)
     }
 
     /// The same chain in memory of its own.

@@ -1,0 +1,12 @@
+pub mod Ledgers
+pub mod StandingRows
+pub mod StandingViews
+pub mod Members
+pub mod Calm
+pub mod Calls
+pub mod Refreshing
+pub mod Answering
+pub mod Appending
+pub mod Reading
+pub mod Storing
+pub mod Beginning

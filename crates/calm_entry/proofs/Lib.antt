@@ -1,0 +1,17 @@
+mod LowerLaws
+mod Keys
+mod Rounds
+mod Receipts
+mod Settlings
+mod Attaching
+mod Gathering
+mod Standing
+mod Quiet
+mod OwnRows
+mod EntryRuns
+mod Refusing
+mod PuttingRefused
+mod Appends
+mod Makings
+mod ReadsAt
+mod KnownViews

@@ -1,0 +1,2 @@
+pub mod NextSettling
+pub mod CalmRun

@@ -1,0 +1,3 @@
+pub mod FirstMembers
+pub mod FirstViews
+pub mod Beginnings

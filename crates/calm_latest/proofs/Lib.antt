@@ -1,0 +1,4 @@
+pub mod Votes
+pub mod LowerLaws
+pub mod CalmReads
+pub mod Endings

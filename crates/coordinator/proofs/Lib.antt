@@ -1,0 +1,12 @@
+pub mod Running
+pub mod Entering
+pub mod Reading
+pub mod Beginning
+pub mod Getting
+pub mod Refreshing
+pub mod Viewing
+pub mod Stages
+pub mod Showing
+pub mod CalmViewing
+pub mod CalmServing
+pub mod CalmBeginning

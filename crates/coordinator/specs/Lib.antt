@@ -1,0 +1,13 @@
+pub mod Calm
+pub mod State
+pub mod Calls
+pub mod Entries
+pub mod Latest
+pub mod ViewsGot
+pub mod Views
+pub mod ViewsRun
+pub mod First
+pub mod Says
+pub mod Laws
+pub mod CalmStates
+pub mod Stepping

@@ -1,6 +1,0 @@
-use Rattle.op_entry.proofs.RoundOwn.{all_own}
-use Rattle.op_entry.proofs.round_laws.round_calls_are_own.Goals as goal
-
-pub returns : goal.returns
-returns c = λ accepts ask state past sound event had.
-    all_own c.calls_are_own.ensures.store c.calls_are_own.ensures.link ask accepts state past sound event had

@@ -1,0 +1,15 @@
+pub mod LatestGoing
+pub mod LatestLists
+pub mod LatestShown
+pub mod LatestParted
+pub mod LatestVerdict
+pub mod LatestBoth
+pub mod LatestRefused
+pub mod LatestTargets
+pub mod LatestComing
+pub mod LatestOwned
+pub mod LatestArms
+pub mod LatestRefreshing
+pub mod LatestStepping
+pub mod LatestLaws
+pub mod LatestGrown

@@ -1,0 +1,10 @@
+pub mod LatestVote
+pub mod LatestJudged
+pub mod LatestTurn
+pub mod LatestState
+pub mod LatestSteps
+pub mod LatestRow
+pub mod LatestAsked
+pub mod LatestSays
+pub mod LatestOwn
+pub mod LatestSound

@@ -1,0 +1,11 @@
+pub mod Extending
+pub mod Refreshing
+pub mod RoundFinish
+pub mod RoundLeads
+pub mod RoundShown
+pub mod RoundParted
+pub mod RoundOwn
+pub mod RoundReceipt
+pub mod RoundBehind
+pub mod Walking
+pub mod Parting

@@ -1,0 +1,16 @@
+pub mod Attachment
+pub mod RefreshState
+pub mod Refresh
+pub mod RefreshSays
+pub mod RefreshTurn
+pub mod RefreshSound
+pub mod Walk
+pub mod RoundAsking
+pub mod RoundOutcome
+pub mod RoundTurn
+pub mod RoundState
+pub mod RoundSteps
+pub mod RoundSound
+pub mod RoundLaws
+pub mod RoundRefusal
+pub mod WalkSound

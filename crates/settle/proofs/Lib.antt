@@ -1,0 +1,12 @@
+pub mod Lists
+pub mod LowerLaws
+pub mod Tops
+pub mod Unsettled
+pub mod Asking
+pub mod WalkSteps
+pub mod Attaching
+pub mod Falling
+pub mod Stepping
+pub mod Own
+pub mod Shown
+pub mod Behind

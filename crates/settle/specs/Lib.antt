@@ -1,0 +1,7 @@
+pub mod Settling
+pub mod State
+pub mod Sound
+pub mod Says
+pub mod Leads
+pub mod Turn
+pub mod Laws

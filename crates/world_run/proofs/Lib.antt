@@ -1,0 +1,4 @@
+pub mod Bytes
+pub mod KnownMore
+pub mod Payloads
+pub mod Ids

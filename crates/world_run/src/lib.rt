@@ -1,0 +1,21 @@
+//! What a run of a script is made of. So far it has who signs in it, and the plain replies.
+//!
+//! - [`Seals`] gives the signers and checkers of a run by the endorsers' ids, and the texts that lead to their keys.
+//!   [`MacSeals`] is the stand-in for attested keys.
+//!
+//! A map from labels to lists of payloads and a list of views are all that the plain replies rest on: there is no service, no
+//! endorser and no store. So what a service prints for a plain script can be held against it.
+//!
+//! - [`plain_replies`] gives the reply lines of a plain script. It reads all earlier lines for each line, and is meant for
+//!   comparing.
+
+#![tactic(auto)]
+
+mod known;
+mod mac_seals;
+mod plain;
+mod seals;
+
+pub use mac_seals::MacSeals;
+pub use plain::plain_replies;
+pub use seals::Seals;
