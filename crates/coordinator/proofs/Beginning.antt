@@ -11,7 +11,7 @@ use Rattle.view_ledger.specs.Views.{ViewChain}
 use Rattle.view_ledger.specs.Receipts.{Accepts}
 use Rattle.op_reconf.specs.OwnCalls.{OwnCalls}
 use Rattle.op_reconf.specs.Says.{Says}
-use Rattle.op_reconf.specs.Sound.{Sound, Leads, MakesOne}
+use Rattle.op_reconf.specs.Sound.{Sound, Leads, MakesOne, AtStage}
 use Rattle.op_reconf.specs.State.{StageState, AtPut, AtMembers, AtMark, AtEnd, State, is_live, answer_at, answer_of}
 use Rattle.calm.specs.Calls.{Later}
 use Rattle.calm_first.specs.First.{BeforeFirst, CalmFirst}
@@ -32,6 +32,13 @@ pub shows_cause : Showing → (accepts : Accepts) (from : ViewChain) (state : St
     → Sound accepts from state past → OfErr (answer_of answer) (IsShown past)
 shows_cause law accepts from state past (Ok row) is sound = tt
 shows_cause law accepts from state past (Err refusal) is sound = law accepts from state past (cause_of refusal) sound (stage_is state.stage (Err (cause_of refusal)) is)
+
+-- the state at the end
+abbrev ended_at : ViewChain → Result ViewRow Cause → State
+ended_at chain answer = record { chain = chain; stage = AtEnd answer }
+
+pub came_to : (accepts : Accepts) (from chain : ViewChain) (state : State) (past : List Event) (answer : Result ViewRow Cause) → chain ≡ from → answer_at state.stage ≡ Some answer → Sound accepts from state past → Sound accepts from (ended_at chain answer) past
+came_to accepts from chain state past answer same is sound = record { chain = same; config = sound.config; at = subst (λ (stage : StageState). AtStage from stage past) (stage_is state.stage answer is) sound.at }
 
 -- the law of beginnings
 abbrev pub BeginningLaw : Type 0
@@ -61,12 +68,13 @@ module _ {S L : Type 0} (accepts : Accepts) (sv : S → StoreView) (lv : L → L
 
   pub ends : (s m s' : S) (l k l' : L) (old new : State) (chain : ViewChain) (answer : Result ViewRow Cause) → Comes accepts sv lv from s l old m k → (is_live old ≡ true → Steps m k old s' l' new)
       → ((past : List Event) → Sound accepts from new past → (chain ≡ from) × OwnCalls from past × Says from past answer)
+      → ((past : List Event) → Sound accepts from new past → chain ≡ from → Sound accepts from (ended_at chain answer) past)
       → ((past : List Event) → Sound accepts from new past → OfErr answer (IsShown past))
       → ((past : List Event) → Sound accepts from new past → FromNothing accepts from past (λ first later. CalmFirst first from.roster answer later))
       → FirstRan accepts sv lv from s l chain s' l' answer
-  ends s m s' l k l' old new chain answer comes step tells shows calms =
+  ends s m s' l k l' old new chain answer comes step tells came shows calms =
       let more = step comes.1 in
       let past = more.0 ++ comes.0.0 in
       let sound = more.3 from comes.0.0 comes.0.2 in
       let told = tells past sound in
-      (past, ran_more sv lv s m s' l k l' comes.0.0 more.0 comes.0.1 more.1, record { same = told.0; own = told.1; says = told.2; shown = shows past sound; calm = calms past sound })
+      (past, ran_more sv lv s m s' l k l' comes.0.0 more.0 comes.0.1 more.1, record { same = told.0; own = told.1; says = told.2; came = came past sound told.0; shown = shows past sound; calm = calms past sound })

@@ -13,16 +13,16 @@ use Rattle.view_ledger.specs.Views.{ViewChain}
 use Rattle.calm.specs.Calls.{Later}
 use Rattle.calm.specs.Calm.{IsCalm}
 use Rattle.calm_first.specs.First.{BeforeFirst, CalmFirst}
-use Rattle.coordinator.specs.CalmStates.{IsBeforeFirst, BeginsCalm, begun}
+use Rattle.coordinator.specs.CalmStates.{IsBeforeFirst, WasHonest, BeginsCalm, begun}
 use Rattle.coordinator.specs.First.{FirstServed, SaysOfFirst}
 use Rattle.coordinator.specs.State.{State}
 use Rattle.coordinator.proofs.CalmServing.{RunLaws, signs_stay}
 
 module _ {S L C : Type 0} (accepts : C → Accepts) (sv : S → StoreView) (lv : L → LinkView) (runs : RunLaws sv lv) (old new : State S L C) (first : BeforeFirst)
-    (before : IsBeforeFirst accepts sv lv old first) (quiet : (sv new.store).faults ≡ (sv old.store).faults) (events : List Event)
+    (before : IsBeforeFirst accepts sv lv old first) (honest : WasHonest sv lv old new first.contents) (events : List Event)
     (ran : Ran sv lv old.store old.link events new.store new.link) (same : new.checker ≡ old.checker) where
   store_then : (after : Contents) × ((sv new.store).told ≡ Some after) × AreHonest first.contents events after
-  store_then = runs.honest old.store new.store old.link new.link events ran first.contents before.contents quiet
+  store_then = honest events ran
 
   link_then : (after : Bank) × ((lv new.link).told ≡ Some after) × AreFaithful (lv old.link).signs first.bank events after
   link_then = runs.faithful old.store new.store old.link new.link events ran first.bank before.bank
@@ -58,6 +58,6 @@ module _ {S L C : Type 0} (accepts : C → Accepts) (sv : S → StoreView) (lv :
       (served.calm first now (sym before.checks) before.alone refl store_then.2 (subst (λ signs. AreFaithful signs first.bank events link_then.0) before.signs link_then.2))
 
 pub begins_calm : {S L C : Type 0} (accepts : C → Accepts) (sv : S → StoreView) (lv : L → LinkView) → RunLaws sv lv → (old new : State S L C) (answer : Result ViewRow Cause) (first : BeforeFirst)
-    → SaysOfFirst accepts sv lv old new answer → IsBeforeFirst accepts sv lv old first → (sv new.store).faults ≡ (sv old.store).faults → BeginsCalm accepts sv lv new first answer
-begins_calm accepts sv lv runs old new answer first says before quiet =
-    begins accepts sv lv runs old new first before quiet says.served.events says.served.ran says.served.checker answer says.served.did
+    → SaysOfFirst accepts sv lv old new answer → IsBeforeFirst accepts sv lv old first → WasHonest sv lv old new first.contents → BeginsCalm accepts sv lv new first answer
+begins_calm accepts sv lv runs old new answer first says before honest =
+    begins accepts sv lv runs old new first before honest says.served.events says.served.ran says.served.checker answer says.served.did

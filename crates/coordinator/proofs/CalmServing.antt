@@ -17,7 +17,7 @@ use Rattle.calm.specs.Calm.{ServiceState}
 use Rattle.calm.specs.StandingViews.{IsFront}
 use Rattle.coordinator.specs.Calls.{Served, OfStanding, OfReply, OfViews}
 use Rattle.coordinator.specs.Calm.{OverCalm, CalmEntry, CalmViews}
-use Rattle.coordinator.specs.CalmStates.{Tells, IsCalmOver, CalmAnswer, CalmlyServed, after}
+use Rattle.coordinator.specs.CalmStates.{Tells, IsCalmOver, WasHonest, CalmAnswer, CalmlyServed, after}
 use Rattle.coordinator.specs.Entries.{EntryServed, first_entry, later_entry}
 use Rattle.coordinator.specs.Latest.{LatestServed}
 use Rattle.coordinator.specs.Says.{coordinator_says}
@@ -31,19 +31,17 @@ signs_stay sv lv s s' l l' [] ran = ap (λ x. (lv x).signs) ran.1
 signs_stay sv lv s s' l l' (AtStore call answer ∷ past) ran = ap (λ x. (lv x).signs) ran.3.1 ∙ signs_stay sv lv s ran.0 l ran.1 past ran.2
 signs_stay sv lv s s' l l' (AtLink id call heard ∷ past) ran = ran.3.0.same_signs ∙ signs_stay sv lv s ran.0 l ran.1 past ran.2
 
--- laws of stores and links
+-- the law of links
 pub record RunLaws {S L : Type 0} (sv : S → StoreView) (lv : L → LinkView) : Type 0 where
-  pub honest : (s s' : S) (l l' : L) (events : List Event) → Ran sv lv s l events s' l' → (contents : Contents) → (sv s).told ≡ Some contents → (sv s').faults ≡ (sv s).faults
-      → (after : Contents) × ((sv s').told ≡ Some after) × AreHonest contents events after
   pub faithful : (s s' : S) (l l' : L) (events : List Event) → Ran sv lv s l events s' l' → (bank : Bank) → (lv l).told ≡ Some bank
       → (after : Bank) × ((lv l').told ≡ Some after) × AreFaithful (lv l).signs bank events after
 
 module _ {S L C : Type 0} (accepts : C → Accepts) (sv : S → StoreView) (lv : L → LinkView) (runs : RunLaws sv lv) (old new : State S L C) (service : ServiceState) (left : ℕ)
-    (calm : IsCalmOver accepts sv lv old service) (one_more : service.left ≡ left + 1) (quiet : (sv new.store).faults ≡ (sv old.store).faults) (events : List Event)
+    (calm : IsCalmOver accepts sv lv old service) (one_more : service.left ≡ left + 1) (honest : WasHonest sv lv old new service.contents) (events : List Event)
     (ran : Ran sv lv old.store old.link events new.store new.link) (same : new.checker ≡ old.checker) where
   -- what stands then
   store_then : (after : Contents) × ((sv new.store).told ≡ Some after) × AreHonest service.contents events after
-  store_then = runs.honest old.store new.store old.link new.link events ran service.contents calm.tells.contents quiet
+  store_then = honest events ran
 
   link_then : (after : Bank) × ((lv new.link).told ≡ Some after) × AreFaithful (lv old.link).signs service.bank events after
   link_then = runs.faithful old.store new.store old.link new.link events ran service.bank calm.tells.bank
@@ -101,15 +99,15 @@ module _ {S L C : Type 0} (accepts : C → Accepts) (sv : S → StoreView) (lv :
   of_views laws number (Replied reply) did = absurd did
 
 pub calmly_served : {S L C : Type 0} (accepts : C → Accepts) (sv : S → StoreView) (lv : L → LinkView) → RunLaws sv lv → ViewLaws → (old new : State S L C) (call : ServiceCall) (answer : ServiceAnswer) (service : ServiceState) (left : ℕ)
-    → coordinator_says accepts sv lv old new call answer → IsCalmOver accepts sv lv old service → service.left ≡ left + 1 → (sv new.store).faults ≡ (sv old.store).faults
+    → coordinator_says accepts sv lv old new call answer → IsCalmOver accepts sv lv old service → service.left ≡ left + 1 → WasHonest sv lv old new service.contents
     → CalmlyServed accepts sv lv new call answer service left
-calmly_served accepts sv lv runs laws old new (NewLedger nonce payload) answer service left says calm one_more quiet =
-    of_entry accepts sv lv runs old new service left calm one_more quiet says.events says.ran says.checker (NewLedger nonce payload) (asks.NewLedger (first_entry nonce payload)) answer (λ a is. is) says.did
-calmly_served accepts sv lv runs laws old new (Append handle height nonce payload) answer service left says calm one_more quiet =
-    of_entry accepts sv lv runs old new service left calm one_more quiet says.events says.ran says.checker (Append handle height nonce payload) (asks.AppendEntry (later_entry handle height nonce payload)) answer (λ a is. is) says.did
-calmly_served accepts sv lv runs laws old new (Latest handle nonce) answer service left says calm one_more quiet =
-    of_latest accepts sv lv runs old new service left calm one_more quiet says.events says.ran says.checker handle nonce answer says.did
-calmly_served accepts sv lv runs laws old new (At handle height) answer service left says calm one_more quiet =
-    of_entry accepts sv lv runs old new service left calm one_more quiet says.events says.ran says.checker (At handle height) (asks.ReadAt handle height) answer (λ a is. is) says.did
-calmly_served accepts sv lv runs laws old new (Views number) answer service left says calm one_more quiet =
-    of_views accepts sv lv runs old new service left calm one_more quiet says.events says.ran says.checker laws number answer says.did
+calmly_served accepts sv lv runs laws old new (NewLedger nonce payload) answer service left says calm one_more honest =
+    of_entry accepts sv lv runs old new service left calm one_more honest says.events says.ran says.checker (NewLedger nonce payload) (asks.NewLedger (first_entry nonce payload)) answer (λ a is. is) says.did
+calmly_served accepts sv lv runs laws old new (Append handle height nonce payload) answer service left says calm one_more honest =
+    of_entry accepts sv lv runs old new service left calm one_more honest says.events says.ran says.checker (Append handle height nonce payload) (asks.AppendEntry (later_entry handle height nonce payload)) answer (λ a is. is) says.did
+calmly_served accepts sv lv runs laws old new (Latest handle nonce) answer service left says calm one_more honest =
+    of_latest accepts sv lv runs old new service left calm one_more honest says.events says.ran says.checker handle nonce answer says.did
+calmly_served accepts sv lv runs laws old new (At handle height) answer service left says calm one_more honest =
+    of_entry accepts sv lv runs old new service left calm one_more honest says.events says.ran says.checker (At handle height) (asks.ReadAt handle height) answer (λ a is. is) says.did
+calmly_served accepts sv lv runs laws old new (Views number) answer service left says calm one_more honest =
+    of_views accepts sv lv runs old new service left calm one_more honest says.events says.ran says.checker laws number answer says.did

@@ -14,8 +14,8 @@ use Rattle.op_parts.specs.Refresh.{HasGrown}
 use Rattle.op_entry.specs.Ask.{Ask}
 use Rattle.op_entry.specs.Laws.{OwnCalls}
 use Rattle.op_entry.specs.Says.{Says}
-use Rattle.op_entry.specs.Sound.{Sound, Leads}
-use Rattle.op_entry.specs.State.{Ended, State, is_live, answer, answer_of}
+use Rattle.op_entry.specs.Sound.{Sound, Leads, IsAnswered, IsAt}
+use Rattle.op_entry.specs.State.{Stage, Ended, State, is_live, answer, answer_of}
 use Rattle.calm.specs.StandingViews.{IsFront}
 use Rattle.calm_entry.specs.CalmRun.{CalmRun}
 use Rattle.coordinator.specs.Calm.{OverCalm, Calmly, CalmEntry}
@@ -70,9 +70,11 @@ module _ {S L : Type 0} (accepts : Accepts) (sv : S → StoreView) (lv : L → L
 
   serves : (state : State) (chain : ViewChain) (said : Result Standing Refusal) (past : List Event) → CalmLaws → Tells state chain (Some said) → Sound accepts ask from state past → EntryServed accepts ask from chain past (answer_of said)
   serves state chain said past laws tells sound =
+      let ended = ended_with state.stage (answer_of said) (sym tells.answered) in
+      let came : IsAnswered accepts ask from state.chain (answer_of said) past = subst (λ (stage : Stage). IsAt accepts ask from state.chain stage past) ended sound in
       let says = subst (λ (o : Option (Result Standing Cause)). IfSome o (Says accepts ask from state.chain past)) (sym tells.answered) (tells.says past sound) in
       subst (λ (c : ViewChain). EntryServed accepts ask from c past (answer_of said)) (sym tells.same)
-      (record { own = tells.own past sound; grown = tells.grown past sound; says = inr says; calm = calmly laws state past (answer_of said) sound (ended_with state.stage (answer_of said) (sym tells.answered)) })
+      (record { own = tells.own past sound; grown = tells.grown past sound; says = inr says; came = inr came; calm = calmly laws state past (answer_of said) sound ended })
 
   pub ends : (s m s' : S) (l k l' : L) (old new : State) (chain : ViewChain) (said : Result Standing Refusal) → Comes accepts sv lv ask from s l old m k → (is_live old ≡ true → Steps m k old s' l' new) → CalmLaws → Tells new chain (Some said)
       → EntryRan accepts sv lv ask from s l chain s' l' (answer_of said)

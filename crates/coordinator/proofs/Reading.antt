@@ -14,8 +14,8 @@ use Rattle.op_parts.specs.Refresh.{HasGrown}
 use Rattle.op_latest.specs.LatestAsked.{LatestAsk, asking_of}
 use Rattle.op_latest.specs.LatestOwn.{OwnCalls}
 use Rattle.op_latest.specs.LatestSays.{LatestSays}
-use Rattle.op_latest.specs.LatestSound.{LatestSound, Leads}
-use Rattle.op_latest.specs.LatestState.{State, Ended, is_live, outcome_of}
+use Rattle.op_latest.specs.LatestSound.{LatestSound, Leads, AtStage}
+use Rattle.op_latest.specs.LatestState.{Stage, State, Ended, is_live, outcome_of}
 use Rattle.calm.specs.Calls.{CalmLatest}
 use Rattle.calm.specs.Calm.{ServiceState, IsCalm}
 use Rattle.calm.specs.StandingViews.{IsFront}
@@ -43,7 +43,14 @@ module _ {S L : Type 0} (accepts : Accepts) (sv : S → StoreView) (lv : L → L
     pub own : (past : List Event) → LatestSound accepts ask from state past → OwnCalls accepts (asking_of ask chain) past
     pub grown : (past : List Event) → LatestSound accepts ask from state past → HasGrown accepts from chain past
     pub says : (past : List Event) → LatestSound accepts ask from state past → LatestSays accepts ask chain past answer
+    pub came : (past : List Event) → LatestSound accepts ask from state past → AtStage accepts ask from chain (Ended answer) past
     pub calm : (past : List Event) → LatestSound accepts ask from state past → Calmly accepts from chain past (λ service later. CalmLatest service ask.handle ask.nonce answer later)
+
+  pub came_to : (state : State) (chain : ViewChain) (past : List Event) (answer : Result LatestReply Cause) → chain ≡ state.chain → LatestSound accepts ask from state past → state.stage ≡ Ended answer
+      → AtStage accepts ask from chain (Ended answer) past
+  came_to state chain past answer same sound ended =
+      subst (λ (c : ViewChain). AtStage accepts ask from c (Ended answer) past) (sym same)
+      (subst (λ (stage : Stage). AtStage accepts ask from state.chain stage past) ended sound.at)
 
   -- what calm services answer to it
   pub record CalmLaws : Type 0 where
@@ -69,7 +76,7 @@ module _ {S L : Type 0} (accepts : Accepts) (sv : S → StoreView) (lv : L → L
       let one = step comes.1 in
       let past = one.0 ∷ comes.0.0 in
       let sound = one.2 ask from comes.0.0 comes.0.2 in
-      (past, ran_more sv lv s m s' l k l' comes.0.0 (one.0 ∷ []) comes.0.1 one.1, record { own = tells.own past sound; grown = tells.grown past sound; says = tells.says past sound; calm = tells.calm past sound })
+      (past, ran_more sv lv s m s' l k l' comes.0.0 (one.0 ∷ []) comes.0.1 one.1, record { own = tells.own past sound; grown = tells.grown past sound; says = tells.says past sound; came = tells.came past sound; calm = tells.calm past sound })
 
 module _ {S L C : Type 0} (accepts : C → Accepts) (sv : S → StoreView) (lv : L → LinkView) (ask : LatestAsk) where
   -- as the call of a coordinator

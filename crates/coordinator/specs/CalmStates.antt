@@ -2,10 +2,12 @@
 use Rattle.std.specs.Prelude.{◌≡◌, ℕ, List, [], ◌∷◌, Some, Result, Ok, Err}
 use Rattle.statement.specs.declared.member.Member.{Member}
 use Rattle.port.specs.Cause.{Cause, NoMemory}
+use Rattle.port.specs.Contents.{Contents}
 use Rattle.port.specs.Link.{LinkView}
 use Rattle.port.specs.Reply.{Standing}
 use Rattle.port.specs.Service.{ServiceCall, NewLedger, Append, Latest, At, Views, ServiceAnswer}
 use Rattle.port.specs.Store.{StoreView}
+use Rattle.port.specs.Trace.{Event, Ran, AreHonest}
 use Rattle.port.specs.View.{ViewRow}
 use Rattle.view_ledger.specs.Views.{ViewChain}
 use Rattle.view_ledger.specs.Receipts.{Accepts}
@@ -34,6 +36,11 @@ module _ {S L C : Type 0} (accepts : C → Accepts) (store_view : S → StoreVie
   pub record IsCalmOver (state : State S L C) (service : ServiceState) : Type 0 where
     pub tells : Tells state service
     pub calm : IsCalm service
+
+-- By whatever calls the one came from the other, its store answered them honestly from these contents on, and tells what stands then.
+abbrev pub WasHonest : {S L C : Type 0} → (S → StoreView) → (L → LinkView) → State S L C → State S L C → Contents → Type 0
+WasHonest sv lv old new contents =
+    (events : List Event) → Ran sv lv old.store old.link events new.store new.link → (after : Contents) × ((sv new.store).told ≡ Some after) × AreHonest contents events after
 
 -- the same service, with what stands after a call
 abbrev pub after : ServiceState → Later → ServiceState

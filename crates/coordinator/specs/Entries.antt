@@ -13,7 +13,7 @@ use Rattle.op_entry.specs.Ask.{Ask}
 use Rattle.op_parts.specs.Refresh.{HasGrown}
 use Rattle.op_entry.specs.Laws.{OwnCalls}
 use Rattle.op_entry.specs.Says.{Says}
-use Rattle.op_entry.specs.Sound.{Sound}
+use Rattle.op_entry.specs.Sound.{Sound, IsAnswered}
 use Rattle.op_entry.specs.State.{State, is_live}
 use Rattle.coordinator.specs.Calls.{IsUnbegun}
 use Rattle.coordinator.specs.Calm.{Calmly, CalmEntry}
@@ -25,12 +25,13 @@ first_entry nonce payload = Genesis nonce (record { bytes = payload; room = 0 })
 abbrev pub later_entry : List ℕ → ℕ → List ℕ → List ℕ → Entry
 later_entry handle height nonce payload = Later handle height nonce (record { bytes = payload; room = 0 })
 
--- The calls are those of the operation, the chain grew by the oldest of them, and this is what they say of the answer; and what the
--- answer is over a calm service.
+-- The calls are those of the operation, the chain grew by the oldest of them, and this is what they say of the answer. They came to it
+-- one after the other, a whole refresh of the chain first, and with the newest one. And what the answer is over a calm service.
 pub record EntryServed (accepts : Accepts) (ask : Ask) (from chain : ViewChain) (events : List Event) (answer : Result Standing Cause) : Type 0 where
   pub own : OwnCalls accepts ask chain.configs events
   pub grown : HasGrown accepts from chain events
   pub says : IsUnbegun events answer ⊎ Says accepts ask from chain events answer
+  pub came : IsUnbegun events answer ⊎ IsAnswered accepts ask from chain answer events
   pub calm : Calmly accepts from chain events (CalmEntry ask answer)
 
 -- an operation that has not ended has made these calls and no other

@@ -10,7 +10,7 @@ use Rattle.view_ledger.specs.Receipts.{Accepts}
 use Rattle.op_reconf.specs.OwnCalls.{OwnCalls}
 use Rattle.op_reconf.specs.Says.{Says}
 use Rattle.op_reconf.specs.Sound.{Sound}
-use Rattle.op_reconf.specs.State.{State, is_live}
+use Rattle.op_reconf.specs.State.{State, AtEnd, is_live}
 use Rattle.calm.specs.Calls.{Later}
 use Rattle.calm_first.specs.First.{BeforeFirst, CalmFirst}
 use Rattle.coordinator.specs.State.{State as Held}
@@ -28,12 +28,13 @@ FromNothing accepts from events P =
     (first : BeforeFirst) (later : Later) → first.accepts ≡ accepts → from.configs ≡ first.config ∷ [] → later.left ≡ first.left
     → AreHonest first.contents events later.contents → AreFaithful first.signs first.bank events later.bank → P first later
 
--- The calls are those that set up view 0, the chain is as it was, and this is what they say of the answer. They show the cause of a
--- refusal; and this is the answer where nothing stood.
+-- The calls are those that set up view 0, the chain is as it was, and this is what they say of the answer. They came to it
+-- one after the other, and with the newest one. They show the cause of a refusal; and this is the answer where nothing stood.
 pub record FirstServed (accepts : Accepts) (from chain : ViewChain) (events : List Event) (answer : Result ViewRow Cause) : Type 0 where
   pub same : chain ≡ from
   pub own : OwnCalls from events
   pub says : Says from events answer
+  pub came : Sound accepts from (record { chain = chain; stage = AtEnd answer }) events
   pub shown : OfErr answer (IsShown events)
   pub calm : FromNothing accepts from events (λ first later. CalmFirst first from.roster answer later)
 

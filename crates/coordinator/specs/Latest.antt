@@ -11,17 +11,18 @@ use Rattle.op_parts.specs.Refresh.{HasGrown}
 use Rattle.op_latest.specs.LatestAsked.{LatestAsk, asking_of}
 use Rattle.op_latest.specs.LatestOwn.{OwnCalls}
 use Rattle.op_latest.specs.LatestSays.{LatestSays}
-use Rattle.op_latest.specs.LatestSound.{LatestSound}
-use Rattle.op_latest.specs.LatestState.{State, is_live}
+use Rattle.op_latest.specs.LatestSound.{LatestSound, AtStage}
+use Rattle.op_latest.specs.LatestState.{State, Ended, is_live}
 use Rattle.calm.specs.Calls.{CalmLatest}
 use Rattle.coordinator.specs.Calm.{Calmly}
 
--- The calls are those of the read, the chain grew by the oldest of them, and this is what they say of the answer; and what the answer
--- is over a calm service.
+-- The calls are those of the read, the chain grew by the oldest of them, and this is what they say of the answer. They came to it one
+-- after the other, a whole refresh of the chain first, and with the newest one. And what the answer is over a calm service.
 pub record LatestServed (accepts : Accepts) (ask : LatestAsk) (from chain : ViewChain) (events : List Event) (answer : Result LatestReply Cause) : Type 0 where
   pub own : OwnCalls accepts (asking_of ask chain) events
   pub grown : HasGrown accepts from chain events
   pub says : LatestSays accepts ask chain events answer
+  pub came : AtStage accepts ask from chain (Ended answer) events
   pub calm : Calmly accepts from chain events (λ service later. CalmLatest service ask.handle ask.nonce answer later)
 
 -- a read that has not ended has made these calls and no other

@@ -9,7 +9,7 @@ ghost use Rattle.calm.specs.Calls.{Later, StaysCalm, GrowsCalm};
 ghost use Rattle.calm.specs.Calm.{ServiceState, with_next};
 ghost use Rattle.calm.specs.StandingViews.{IsFront};
 ghost use Rattle.calm_first.specs.First.{BeforeFirst};
-ghost use Rattle.coordinator.specs.CalmStates.{Tells, IsBeforeFirst, IsCalmOver, BeginsCalm, CalmlyServed, after};
+ghost use Rattle.coordinator.specs.CalmStates.{Tells, IsBeforeFirst, IsCalmOver, WasHonest, BeginsCalm, CalmlyServed, after};
 ghost use Rattle.coordinator.specs.First.{SaysOfFirst};
 ghost use Rattle.coordinator.specs.Says.{coordinator_says};
 ghost use Rattle.coordinator.specs.State.{State};
@@ -24,9 +24,13 @@ use seal::Checker;
 /// A coordinator that is calm, whose store counts no fault in a call, answers as a calm service does, or wants memory. Its members
 /// have one stamp and one signature less then, at most.
 pub fn calm_coordinators_answer<S: Store, L: Link, C: Checker>()
-    ensures { (old new : State S L C) (call : ServiceCall) (answer : ServiceAnswer) (service : ServiceState) (left : ℕ)
+    ensures quiet { (old new : State S L C) (call : ServiceCall) (answer : ServiceAnswer) (service : ServiceState) (left : ℕ)
         → coordinator_says C.accepts S.view L.view old new call answer → IsCalmOver C.accepts S.view L.view old service → service.left ≡ left + 1
         → (S.view new.store).faults ≡ (S.view old.store).faults → CalmlyServed C.accepts S.view L.view new call answer service left }
+    // The same of a store of which it is known in another way that it neither lies nor fails.
+    ensures honest { (old new : State S L C) (call : ServiceCall) (answer : ServiceAnswer) (service : ServiceState) (left : ℕ)
+        → coordinator_says C.accepts S.view L.view old new call answer → IsCalmOver C.accepts S.view L.view old service → service.left ≡ left + 1
+        → WasHonest S.view L.view old new service.contents → CalmlyServed C.accepts S.view L.view new call answer service left }
 {
     calls_are_split();
     calm_services_go_on();
@@ -42,9 +46,13 @@ pub fn calm_coordinators_answer<S: Store, L: Link, C: Checker>()
 /// A coordinator whose store is empty and whose members of view 0 were never initialized sets up view 0 where its store counts no fault,
 /// or wants memory, and is calm then. Each member takes two stamps and no signature for it.
 pub fn calm_coordinators_begin<S: Store, L: Link, C: Checker>()
-    ensures { (old new : State S L C) (answer : Result ViewRow Cause) (first : BeforeFirst)
+    ensures quiet { (old new : State S L C) (answer : Result ViewRow Cause) (first : BeforeFirst)
         → SaysOfFirst C.accepts S.view L.view old new answer → IsBeforeFirst C.accepts S.view L.view old first
         → (S.view new.store).faults ≡ (S.view old.store).faults → BeginsCalm C.accepts S.view L.view new first answer }
+    // The same of a store of which it is known in another way that it neither lies nor fails.
+    ensures honest { (old new : State S L C) (answer : Result ViewRow Cause) (first : BeforeFirst)
+        → SaysOfFirst C.accepts S.view L.view old new answer → IsBeforeFirst C.accepts S.view L.view old first
+        → WasHonest S.view L.view old new first.contents → BeginsCalm C.accepts S.view L.view new first answer }
 {
     links_are_faithful::<S, L>();
     stores_are_honest::<S, L>();

@@ -19,7 +19,8 @@ use view_ledger::ViewChain;
 
 /// A service over a store and the links to its endorsers. Each call first refreshes the chain of views from the store.
 ///
-/// A call that is refused keeps the refreshed chain, and changes nothing else but the count of refusals.
+/// A call that is refused keeps the refreshed chain, and changes nothing else of the coordinator but the count of refusals. What it left
+/// in the store and with the endorsers stays.
 #[derive(Drop)]
 pub struct Coordinator<S: Store, L: Link, C: Checker> {
     alloc: Global,
