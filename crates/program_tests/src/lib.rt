@@ -7,4 +7,6 @@ mod plain_scripts;
 #[cfg(test)]
 mod printed;
 #[cfg(test)]
+mod set_ups;
+#[cfg(test)]
 mod signing;

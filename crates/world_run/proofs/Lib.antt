@@ -2,3 +2,4 @@ pub mod Bytes
 pub mod KnownMore
 pub mod Payloads
 pub mod Ids
+pub mod SettingUp

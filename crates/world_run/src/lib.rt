@@ -1,7 +1,9 @@
-//! What a run of a script is made of. So far it has who signs in it, and the plain replies.
+//! What a run of a script is made of. So far it has who signs in it, what it rests on, and the plain replies.
 //!
 //! - [`Seals`] gives the signers and checkers of a run by the endorsers' ids, and the texts that lead to their keys.
 //!   [`MacSeals`] is the stand-in for attested keys.
+//!
+//! - [`set_up_texts`] gives the texts whose digests a run rests on before it begins, and [`nonce`] the nonce of a number.
 //!
 //! A map from labels to lists of payloads and a list of views are all that the plain replies rest on: there is no service, no
 //! endorser and no store. So what a service prints for a plain script can be held against it.
@@ -15,7 +17,9 @@ mod known;
 mod mac_seals;
 mod plain;
 mod seals;
+mod set_up;
 
 pub use mac_seals::MacSeals;
 pub use plain::plain_replies;
 pub use seals::Seals;
+pub use set_up::{nonce, set_up_texts};

@@ -7,7 +7,7 @@ use seal::{KeyBook, MacScheme, MacSigner, key_text, secret_text};
 use std::alloc::Global;
 
 /// How many ids there are.
-const IDS: u32 = 64;
+pub(crate) const IDS: u32 = 64;
 
 /// The stand-in for attested keys: the secret of an id is the digest of 41 in hexadecimal and the id in 4 bytes, and its key the
 /// digest of 40 and the secret.
