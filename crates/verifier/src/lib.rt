@@ -4,14 +4,19 @@
 //!   a height and to a latest read.
 //! - [`ReplyFault`] says why a reply isn't accepted.
 //!
+//! [`outcomes_mean`] says what it means that a check finds no fault, and [`fronts_judge_alike`] how a client with fewer views judges
+//! the same reply.
+//!
 //! A yes rests on nothing that the service says but what members of a view signed.
 
 #![tactic(auto)]
 
 mod client;
 mod faults;
+mod laws;
 mod reply_fault;
 mod rows;
 
 pub use client::Verifier;
+pub use laws::{fronts_judge_alike, outcomes_mean};
 pub use reply_fault::ReplyFault;
