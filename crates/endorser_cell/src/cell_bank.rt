@@ -1,4 +1,4 @@
-ghost use Rattle.std.specs.Prelude.{◌≡◌, ◌≢◌, ℕ, []};
+ghost use Rattle.std.specs.Prelude.{◌≡◌, ◌≢◌, ℕ, [], None, IfSome};
 ghost use Rattle.std.specs.List.{list_all};
 ghost use Rattle.std.specs.Option.{option_copied};
 ghost use Rattle.port.specs.Call.{call_of};
@@ -56,7 +56,7 @@ impl<'a, G: Scheme, K: ClockName> Drop for CellBank<'a, G, K> {
 }
 
 impl<'a, G: Scheme, K: ClockName> CellBank<'a, G, K> {
-    ghost use Rattle.endorser_cell.specs.Cells.{cell_of};
+    ghost use Rattle.endorser_cell.specs.Cells.{IsPlaceOf, cell_of};
     ghost use Rattle.endorser_cell.specs.CellBank.{AreServed, IsRawFaithful, IsServedRaw, KeepsCalls, due_of, has_no_line, more_due};
 
     /// A bank of these cells, whose stamps are of the clock. It takes no memory. Where an id stands twice, the
@@ -99,6 +99,14 @@ impl<'a, G: Scheme, K: ClockName> CellBank<'a, G, K> {
     {
         let place = place_of(&self.cells, id)?;
         Some(&self.cells[place])
+    }
+
+    /// Where the cell of this id stands.
+    pub fn place_of(&self, id: u32) -> Option<usize>
+        ensures found { IfSome result (IsPlaceOf self.now.cells id) }
+        ensures none { result ≡ None → cell_of self.now.cells id ≡ None }
+    {
+        place_of(&self.cells, id)
     }
 
     /// The calls that the endorsers were asked, from the first on.
