@@ -6,3 +6,4 @@ pub mod MemStore
 pub mod Fault
 pub mod Lies
 pub mod LyingStore
+pub mod TrueStores
