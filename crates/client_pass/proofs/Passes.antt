@@ -1,5 +1,5 @@
 -- A client's pass that notes one act more.
-use Rattle.std.proofs.Common.{◌≡◌, ℕ, ◌+◌, ◌-◌, ◌<◌, ◌≤◌, List, [], ◌∷◌, ◌++◌, length, take, slice_get, Option, Some, None, IfSome, IfNone, Result, option_map, refl, sym, ap, subst, ◌∙◌, arith}
+use Rattle.std.proofs.Common.{◌≡◌, ℕ, ◌+◌, ◌-◌, ◌<◌, ◌≤◌, List, [], ◌∷◌, ◌++◌, length, take, slice_get, Option, Some, None, IfSome, IfNone, Result, option_map, refl, sym, ap, subst, ◌∙◌, append-nil, arith}
 use Rattle.std.specs.List.{All}
 use Rattle.std.proofs.lemmas.List.{take-append-le, length_push}
 use Rattle.chain_block.specs.declared.entry.Entry.{Entry}
@@ -14,10 +14,11 @@ use Rattle.verifier.specs.declared.reply_fault.ReplyFault.{ReplyFault}
 use Rattle.verifier.specs.Outcomes.{append_outcome, latest_outcome}
 use Rattle.client_pass.specs.declared.take_fault.TakeFault.{TakeFault}
 use Rattle.client_pass.specs.Act.{Act, Draw, Append, Latest, At, Look, View, Line, line}
-use Rattle.client_pass.specs.ClientList.{IsClientList, IsDone, chain_after, chain_of, stamps_of, IsForEntry, IsForRead}
+use Rattle.stamp_clock.specs.Stamps.{times}
+use Rattle.client_pass.specs.ClientList.{answered, IsAnswered, IsClientList, IsDone, chain_after, chain_of, stamps_of, IsForEntry, IsForRead}
 use Rattle.client_pass.specs.Answers.{answer_by, view_answer_by, IfReplyNoted, IfViewNoted}
 use Rattle.client_pass.specs.ClientPass.{ClientPass, Notes, up_to}
-use Rattle.client_pass.proofs.ClientLists.{IsOpen, list_push, chain_push, get_last}
+use Rattle.client_pass.proofs.ClientLists.{IsOpen, answered_push, list_push, chain_push, get_last}
 
 pub same_chain : {C : Type 0} (inside old : ClientPass C) → inside ≡ old → inside.chain ≡ old.chain
 same_chain inside old e = ap (λ p. p.chain) e
@@ -98,6 +99,16 @@ for_read old new nonce intent None number n copy e =
     let drawn : option_map bare intent ≡ None = ap (option_map bare) copy in
     (n.stamp, at_number old new (Draw nonce (option_map bare intent)) number n e ∙ ap (λ (o : Option Entry). Some (line n.stamp (Draw nonce o))) drawn)
 for_read old new nonce intent (Some entry) number n copy e = tt
+
+-- a draw that no accepted reply named before it was noted is named by none then
+pub still_open : {C : Type 0} (old new : ClientPass C) (nonce : List ℕ) (intent : Option Entry) (number : ℕ) → Notes old new (Draw nonce (option_map bare intent))
+    → times number (answered old.lines) ≡ 0 → IsAnswered new.lines number → ⊥
+still_open old new nonce intent number n none is =
+    let next = line n.stamp (Draw nonce (option_map bare intent)) in
+    let lines : new.lines ≡ old.lines ++ next ∷ [] = same_lines new _ n.noted in
+    let same : answered new.lines ≡ answered old.lines = ap answered lines ∙ answered_push old.lines next ∙ append-nil (answered old.lines) in
+    let zero : times number (answered new.lines) ≡ 0 = ap (times number) same ∙ none in
+    absurd (omega (arith, is, zero))
 
 -- ---- answers
 

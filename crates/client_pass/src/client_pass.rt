@@ -1,4 +1,4 @@
-ghost use Rattle.std.specs.Prelude.{◌≡◌, ◌≢◌, ◌↔◌, ◌-◌, ◌<◌, [], ℕ, List, length, Ok, Err, IfOk, IfSome, IfNone, OnOk, OnErr, option_map, option_copied};
+ghost use Rattle.std.specs.Prelude.{◌≡◌, ◌≢◌, ◌↔◌, ◌-◌, ◌<◌, [], ℕ, List, length, Ok, Err, IsTrue, IfOk, IfSome, IfNone, OnOk, OnErr, option_map, option_copied};
 ghost use Rattle.std.specs.List.Sorted.{IsStrictlyIncreasing};
 ghost use Rattle.std.specs.Result.{result_err};
 ghost use Rattle.chain_block.specs.declared.entry.Entry.{Entry};
@@ -95,6 +95,7 @@ impl<C: Checker, K: ClockName> ClientPass<C, K> {
         // What the number is good for.
         ensures for_entry { IfOk result (λ number. IfSome (option_copied intent.entry) (λ entry. IsForEntry self.new.lines number (bare entry))) }
         ensures for_read { IfOk result (λ number. IfNone (option_copied intent.entry) (IsForRead self.new.lines number nonce.now)) }
+        ensures open { IfOk result (λ number. IsAnswered self.new.lines number → ⊥) }
     {
         let number = self.lines.next();
         let intent = copied(alloc, intent)?;
@@ -251,6 +252,13 @@ impl<C: Checker, K: ClockName> ClientPass<C, K> {
         let stamp = clock.stamp(&mut self.pass);
         self.lines.add(stamp, ClientAct::View { row, fault });
         view_answer_by(fault)
+    }
+
+    /// Whether the draw of this number has an accepted reply.
+    pub fn is_answered(&self, draw: u64) -> bool
+        ensures { IsTrue result ↔ IsAnswered self.now.lines draw }
+    {
+        self.lines.is_answered(draw)
     }
 
     /// The client's number.

@@ -45,7 +45,8 @@ impl Lines {
 
     /// The number of the line to come.
     pub(crate) fn next(&self) -> u64
-        ensures { result ≡ length self.now.lines }
+        ensures number { result ≡ length self.now.lines }
+        ensures open { times result (answered self.now.lines) ≡ 0 }
     {
         self.lines.len() as u64
     }
