@@ -22,7 +22,7 @@ or_false false = refl
 any_more : {X : Type 0} (p : X → Bool) (xs : List X) (x : X) → list_any p (xs ++ x ∷ []) ≡ (list_any p xs || p x)
 any_more p xs x = list_any-append p xs (x ∷ []) ∙ ap (λ b. list_any p xs || b) (or_false (p x))
 
-count_more : {X : Type 0} (p : X → Bool) (xs : List X) (x : X) → count_by p (xs ++ x ∷ []) ≡ count_by p xs + cond (p x) 1 0
+pub count_more : {X : Type 0} (p : X → Bool) (xs : List X) (x : X) → count_by p (xs ++ x ∷ []) ≡ count_by p xs + cond (p x) 1 0
 count_more p xs x = fold_push (λ n y. n + cond (p y) 1 0) 0 xs x
 
 same_counts : (a b : Counts) → a.news ≡ b.news → a.reconfigures ≡ b.reconfigures → a.finalizes ≡ b.finalizes → a ≡ b

@@ -1,7 +1,7 @@
 -- What is written reads as the same script, and each of its commands fits after those before it.
 use Rattle.std.proofs.Common.{subst, ◌≡◌, refl, sym, ap, ◌∙◌, Bool, true, false, cond, ℕ, ◌+◌, ◌≤◌, List, [], ◌∷◌, ◌++◌, length, take, map, append_assoc, Result, Ok, Err, ltb, arith}
 use Rattle.std.proofs.lemmas.Bool.{ltb-false, le-ltb}
-use Rattle.std.proofs.lemmas.List.{append-nil, length-take}
+use Rattle.std.proofs.lemmas.List.{append-nil, length-map, length-take}
 use Rattle.std.proofs.lemmas.List.Folds.{flat_map-map}
 use Rattle.fault_script.specs.declared.bad_cause.BadCause.{BadCause}
 use Rattle.fault_script.specs.declared.bad_cause.BadCause.TheVariants as causes
@@ -92,17 +92,19 @@ pub reads_again : (text : List ℕ) (commands : List Command) → script_of text
 unfolding script_of text_of
 reads_again text commands h = again 1048576 65536 (faults.BadLine 0 causes.Long) (faults.BadLine 65537 causes.Long) text commands h
 
-pub record Whole (commands : List Command) : Type 0 where
+pub record Whole (m : ℕ) (commands : List Command) : Type 0 where
   pub fit : AllFit [] commands
   pub over : has_ended commands ≡ true
+  pub count : length commands ≤ m
 
-kept_whole : (n m : ℕ) (long many : ScriptFault) (text : List ℕ) (commands : List Command) → within n m long many text ≡ Ok commands → Whole commands
+kept_whole : (n m : ℕ) (long many : ScriptFault) (text : List ℕ) (commands : List Command) → within n m long many text ≡ Ok commands → Whole m commands
 kept_whole n m long many text commands h =
     let bytes = if_within (ltb n (length text)) (cond (ltb m (length (lines text))) (Err many) (read_after [] (lines text))) long commands h in
     let count = if_within (ltb m (length (lines text))) (read_after [] (lines text)) many commands bytes.1 in
     let a = added (lines text) [] commands count.1 in
-    record { fit = subst (AllFit []) (sym a.are) a.fit; over = a.over }
+    let as_many : length commands ≡ length (lines text) = ap length a.are ∙ sym (length-map a.more line_text) ∙ ap length a.written in
+    record { fit = subst (AllFit []) (sym a.are) a.fit; over = a.over; count = omega (arith, as_many, ltb-false m (length (lines text)) count.0) }
 
-pub scripts_are_whole : (text : List ℕ) (commands : List Command) → script_of text ≡ Ok commands → Whole commands
+pub scripts_are_whole : (text : List ℕ) (commands : List Command) → script_of text ≡ Ok commands → Whole 65536 commands
 unfolding script_of
 scripts_are_whole text commands h = kept_whole 1048576 65536 (faults.BadLine 0 causes.Long) (faults.BadLine 65537 causes.Long) text commands h

@@ -5,6 +5,7 @@ mod Adding
 mod Steps
 mod Spelled
 mod Heads
+mod Served
 mod Arity
 mod SpelledActs
 mod SpelledForms
@@ -17,3 +18,4 @@ mod Texts
 mod Again
 mod WordLimits
 mod CommandLimits
+mod Fitting

@@ -1,5 +1,5 @@
 -- How many lines of a kind there may be: 256 `new`, 24 `reconfigure` and 24 `raw finalize`, begun ones included.
-use Rattle.std.specs.Prelude.{Bool, true, false, ◌&&◌, ◌||◌, List, count_by, nat_le}
+use Rattle.std.specs.Prelude.{Bool, true, false, not, ◌&&◌, ◌||◌, List, count_by, nat_le}
 use Rattle.fault_script.specs.declared.counts.Counts.{Counts}
 use Rattle.fault_script.specs.Command.{Request, New, Append, Latest, At, Reconfigure, Command, Plain, Begin, RawFinalize}
 
@@ -30,6 +30,10 @@ is_reconfigure _ = false
 abbrev pub is_raw_finalize : Command → Bool
 is_raw_finalize (RawFinalize id ids) = true
 is_raw_finalize _ = false
+
+-- whether lines may say it yet: no line is a `reconfigure`, begun or not, or a `raw finalize`
+abbrev pub is_served : Command → Bool
+is_served command = not (is_reconfigure command || is_raw_finalize command)
 
 -- how many of these lines are of each kind
 abbrev pub counts_of : List Command → Counts

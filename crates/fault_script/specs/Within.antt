@@ -1,6 +1,9 @@
 -- What holds of each command of a script after those before it.
 use Rattle.std.specs.Prelude.{◌≡◌, ◌==◌, ℕ, ◌<◌, ◌≤◌, Bool, true, false, List, [], ◌∷◌, ◌++◌, length, None}
+use Rattle.fault_script.specs.Labels.{is_used, makes_used_label}
+use Rattle.fault_script.specs.Limits.{counts_of, is_served, is_too_many}
 use Rattle.fault_script.specs.Line.{fault_after, has_ended}
+use Rattle.fault_script.specs.Operations.{misuses, standing}
 use Rattle.fault_script.specs.Command.{Request, New, Append, Latest, At, Reconfigure, Command, Genesis, Plain, Restart, Begin, Step, Finish, Retry, LoseRequest, LoseReply, StoreFail, StoreHide, StoreStale, StoreFork, StoreHonest, RawAppend, RawLatest, RawShow, RawFinalize, Offer, Forge, End}
 
 -- each number is above the one before and at most 64
@@ -49,12 +52,17 @@ abbrev pub is_genesis : Command → Bool
 is_genesis (Genesis ids) = true
 is_genesis _ = false
 
--- what holds of a command after these: its limits; it is `genesis` just where it is the first; no `end` stands before it;
--- its label, its operation and its kind forbid it nothing
+-- what holds of a command after these: its limits; lines may say it; it is `genesis` just where it is the first; no `end`
+-- stands before it; it makes no label that is used; its operation stands as it wants; it isn't one too many of its kind;
+-- so nothing is wrong with it
 pub record Fits (earlier : List Command) (command : Command) : Type 0 where
   pub limits : IsWithin command
+  pub served : is_served command ≡ true
   pub first : is_genesis command ≡ (length earlier == 0)
   pub going : has_ended earlier ≡ false
+  pub apart : makes_used_label (is_used earlier) command ≡ false
+  pub stands : misuses (standing earlier) command ≡ false
+  pub few : is_too_many (counts_of earlier) command ≡ false
   pub good : fault_after earlier command ≡ None
 
 -- each command fits after those before it

@@ -45,7 +45,8 @@ pub enum Act {
 }
 
 impl Act {
-    pub(crate) fn label(&self) -> Option<&[u8]>
+    /// The label of its ledger; a `reconfigure` has none.
+    pub fn label(&self) -> Option<&[u8]>
         ensures { option_map (λ label. label.now) result ≡ label_of_request (request_of self.now) }
     {
         match self {

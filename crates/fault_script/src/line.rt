@@ -117,7 +117,8 @@ pub enum Line {
 }
 
 impl Line {
-    pub(crate) fn label(&self) -> Option<&[u8]>
+    /// The label that it has, if it has one: that of its act, of a lie or of a call to an endorser.
+    pub fn label(&self) -> Option<&[u8]>
         ensures { option_map (λ label. label.now) result ≡ label_of (command_of self.now) }
     {
         match self {

@@ -1,9 +1,11 @@
-ghost use Rattle.std.specs.Prelude.{◌≡◌, [], true, IfOk, take};
+ghost use Rattle.std.specs.Prelude.{◌≡◌, ◌≤◌, ◌++◌, ◌∷◌, List, [], true, IfOk, count_by, length, take};
+ghost use Rattle.fault_script.specs.Command.{Command};
+ghost use Rattle.fault_script.specs.Limits.{is_new};
 ghost use Rattle.fault_script.specs.Script.{is_plain, script_of};
 ghost use Rattle.fault_script.specs.Seen.{commands_of};
 ghost use Rattle.fault_script.specs.Spelling.{text_of};
 ghost use Rattle.fault_script.specs.Line.{has_ended};
-ghost use Rattle.fault_script.specs.Within.{AllFit};
+ghost use Rattle.fault_script.specs.Within.{AllFit, Fits};
 
 use crate::line::Line;
 use crate::writing::write_lines;
@@ -70,13 +72,17 @@ impl Script {
         Script { lines }
     }
 
-    /// The lines. Each keeps the limits of its words and fits after those before it: `genesis` is the
-    /// first, `end` the last, and no label or operation is misused.
+    /// The lines, up to 65,536. Each keeps the limits of its words and fits after those before it:
+    /// `genesis` is the first, `end` the last, and no label or operation is misused. Up to 256 are
+    /// `new`, and none is a `reconfigure` or a `raw finalize`.
     pub fn lines(&self) -> &[Line]
         ensures lines { commands_of result.now ≡ self.now }
         ensures script { script_of (text_of self.now) ≡ Ok self.now }
         ensures fits { AllFit [] self.now }
+        ensures each { (before : List Command) (command : Command) (after : List Command) → self.now ≡ before ++ command ∷ after → Fits before command }
         ensures ended { has_ended self.now ≡ true }
+        ensures count { length self.now ≤ 65536 }
+        ensures news { count_by is_new self.now ≤ 256 }
     {
         &self.lines
     }
