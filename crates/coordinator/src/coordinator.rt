@@ -67,6 +67,14 @@ impl<S: Store, L: Link, C: Checker> Coordinator<S, L, C> {
         }
     }
 
+    /// Restarts: it is what a new one over this chain, its store, its link and its checker would be.
+    pub fn restart(&mut self, first: ViewChain)
+        ensures { self.new ≡ record self.old { chain = first; refused = 0 } }
+    {
+        self.chain = Some(first);
+        self.refused = 0;
+    }
+
     /// Sets up view 0, which its chain has, with no refresh. Its refusals aren't counted.
     pub fn genesis(&mut self) -> Result<ViewRow, Refusal>
         ensures { SaysOfFirst C.accepts S.view L.view self.old self.new (answer_of result) }
