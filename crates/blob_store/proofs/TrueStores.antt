@@ -1,5 +1,5 @@
 -- A store that departs from nothing answers as an honest one does.
-use Rattle.std.proofs.Common.{◌≡◌, ⊎_elim, ℕ, ◌+◌, true, false, None, List, [], ◌∷◌, Some, refl, sym, ◌∙◌, ap, subst, arith, Bool, Option}
+use Rattle.std.proofs.Common.{◌≡◌, ⊎_elim, ℕ, ◌+◌, false, None, List, [], ◌∷◌, Some, sym, ◌∙◌, ap, subst, arith, Bool, Option}
 use Rattle.port.specs.declared.key.Key.{Key}
 use Rattle.port.specs.declared.store_answers.Put.TheVariants as puts
 use Rattle.port.specs.declared.store_answers.Got.TheVariants as gots

@@ -125,6 +125,12 @@ module _ {C : Type 0} where
   place_within clients name None is = tt
   place_within clients name (Some place) is = let named = found_is_named clients name place (sym is) in slice_get_within clients place named.0 named.1
 
+  -- one client more, where the list before is known by other names
+  pub grown_from : (now clients room longer : List (Client C)) (copy : List ℕ) (pass : ClientPass C) → longer ≡ room ++ record { name = copy; pass = pass } ∷ [] → room ≡ clients → clients ≡ now
+      → longer ≡ now ++ record { name = copy; pass = pass } ∷ []
+  grown_from now clients room longer copy pass pushed same is = subst (λ (l : List (Client C)). longer ≡ l ++ record { name = copy; pass = pass } ∷ []) is
+      (subst (λ (l : List (Client C)). longer ≡ l ++ record { name = copy; pass = pass } ∷ []) same pushed)
+
   -- the longer list has the new name at its end
   pub place_grown : (clients longer : List (Client C)) (name copy : List ℕ) (pass : ClientPass C) → longer ≡ clients ++ record { name = copy; pass = pass } ∷ [] → copy ≡ name
       → place_of clients name ≡ None → (other : List ℕ) → place_of longer other ≡ cond (bytes_eq other name) (Some (length clients)) (place_of clients other)
