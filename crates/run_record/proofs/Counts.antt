@@ -1,7 +1,7 @@
 -- Counts of events, and lists that grow by one line.
 use Rattle.std.proofs.Common.{◌≡◌, ℕ, zero, suc, ◌+◌, ◌<◌, ◌≤◌, Bool, true, cond, List, [], ◌∷◌, ◌++◌, length, get_or, set, take, refl, sym, ap, ◌∙◌, arith}
 use lib.Dec.{eqb-zero-suc, eqb-suc-zero, eqb-suc-suc}
-use Rattle.std.specs.List.{count_by}
+use Rattle.std.specs.List.{AllByRecursion, count_by}
 use Rattle.std.proofs.lemmas.List.Sums.{sum_by-append, sum_by-cons}
 use Rattle.run_record.specs.declared.actor.Actor.{Actor}
 use Rattle.run_record.specs.declared.actor.Actor.TheVariants.{Endorser, Client}
@@ -76,3 +76,8 @@ pub beyond : {A : Type 0} (lists : List (List A)) (place : ℕ) → length lists
 beyond [] place h = refl
 beyond (x ∷ xs) zero h = absurd (omega arith)
 beyond (x ∷ xs) (suc place) h = beyond xs place (omega arith)
+
+pub empty_at : {A : Type 0} (lists : List (List A)) → AllByRecursion (λ (lines : List A). lines ≡ []) lists → (place : ℕ) → length_at lists place ≡ 0
+empty_at [] empty place = refl
+empty_at (lines ∷ lists) empty zero = ap length empty.0
+empty_at (lines ∷ lists) empty (suc place) = empty_at lists empty.1 place

@@ -1,4 +1,5 @@
 ghost use Rattle.std.specs.Prelude.{◌≡◌, ℕ, ◌+◌, ◌<◌, ◌++◌, List, [], ◌∷◌, length, slice_set};
+ghost use Rattle.std.specs.List.{AllByRecursion};
 ghost use Rattle.endorser_core.specs.Line.{Line as CellLine};
 ghost use Rattle.client_pass.specs.Act.{Line as ClientLine};
 ghost use Rattle.run_record.specs.declared.actor.Actor.{Actor};
@@ -21,6 +22,7 @@ pub fn orders_grow()
         → AreEvents order cells passes → acting < length cells → length lines ≡ length_at cells acting + 1 → AreEvents (order ++ Endorser acting ∷ []) (slice_set cells acting lines) passes }
     ensures pass_grows { (order : List Actor) (cells : List (List CellLine)) (passes : List (List ClientLine)) (acting : ℕ) (lines : List ClientLine)
         → AreEvents order cells passes → acting < length passes → length lines ≡ length_at passes acting + 1 → AreEvents (order ++ Client acting ∷ []) cells (slice_set passes acting lines) }
+    ensures empty { (cells : List (List CellLine)) (passes : List (List ClientLine)) → AllByRecursion (λ (lines : List CellLine). lines ≡ []) cells → AllByRecursion (λ (lines : List ClientLine). lines ≡ []) passes → AreEvents [] cells passes }
     ensures new_cell { (order : List Actor) (cells : List (List CellLine)) (passes : List (List ClientLine)) → AreEvents order cells passes → AreEvents order (cells ++ [] ∷ []) passes }
     ensures new_pass { (order : List Actor) (cells : List (List CellLine)) (passes : List (List ClientLine)) → AreEvents order cells passes → AreEvents order cells (passes ++ [] ∷ []) }
 {}
