@@ -1,0 +1,5 @@
+pub mod Rosters
+pub mod Places
+pub mod Counts
+pub mod Grows
+pub mod Known

@@ -1,0 +1,7 @@
+use Rattle.roster_bank.proofs.Rosters.{lose_roster}
+use Rattle.roster_bank.proofs.roster_bank.RosterBank.lose.Goals as goal
+
+pub invariant_of-self : goal.invariant_of-self
+invariant_of-self g c =
+    lose_roster g.G.Signer.Signer.key_of g.G.Checker.Checker.accepts g.K.RunName.members g.K.RunName.accepts
+    c.self.inside.bank c.lose.new.self c.args.id c.args.n c.args.which c.self.invariant c.lose.ensures.keeps.fresh c.lose.ensures.log c.lose.ensures.cells
