@@ -4,7 +4,7 @@ use Rattle.std.specs.Prelude.{IfOk}
 use Rattle.std.specs.List.{cons_option}
 use Rattle.std.proofs.lemmas.List.{get_or-map}
 use Rattle.statement.specs.declared.member.Member.{Member}
-use Rattle.statement.specs.Ids.{RisesFrom, IsRising}
+use Rattle.statement.specs.Ids.{IsRising}
 use Rattle.statement.specs.Config.{ids as ids_of}
 use Rattle.stamp_clock.specs.Stamps.{times}
 use Rattle.port.specs.Call.{Call}

@@ -7,7 +7,7 @@ use Rattle.nim_base.specs.declared.no_memory.NoMemory.{NoMemory as WantOfMemory}
 use Rattle.statement.specs.Config.{ids}
 use Rattle.port.specs.declared.endorser_answer.EndorserAnswer.{EndorserAnswer}
 use Rattle.port.specs.Call.{Call}
-use Rattle.port.specs.Answer.{Answer, answer_of}
+use Rattle.port.specs.Answer.{answer_of}
 use Rattle.port.specs.Heard.{Heard, Answered, Lost, NoMemory}
 use Rattle.endorser_cell.specs.EndorserCell.{EndorserCell}
 use Rattle.endorser_cell.specs.BankLine.{BankLine, unserved, asked_line}

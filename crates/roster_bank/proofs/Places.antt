@@ -1,12 +1,11 @@
 -- Places of ids that rise.
-use Rattle.std.proofs.Common.{◌≡◌, ◌≢◌, ◌⊎◌, ℕ, zero, suc, ◌+◌, ◌<◌, ◌≤◌, Bool, true, false, eqb, ltb, cond, List, [], ◌∷◌, ◌++◌, map, length, get_or, Option, Some, None, inl, inr, refl, sym, ap, subst, ◌∙◌, arith}
-use Rattle.std.specs.Prelude.{option_map, option_to_list, IfSome}
+use Rattle.std.proofs.Common.{◌≡◌, ◌≢◌, ℕ, zero, suc, ◌+◌, ◌<◌, ◌≤◌, Bool, false, eqb, cond, List, [], ◌∷◌, length, get_or, Option, Some, None, inl, inr, refl, sym, ap, subst, ◌∙◌, arith}
+use Rattle.std.specs.Prelude.{option_map, IfSome}
 use Rattle.std.proofs.lemmas.Bool.{eq-eqb, ltb-true}
 use Rattle.std.proofs.lemmas.Bool.Decides.{eqb_tells}
 use Rattle.statement.specs.declared.member.Member.{Member}
 use Rattle.statement.specs.Ids.{RisesFrom, IsRising}
 use Rattle.statement.specs.Config.{ids as ids_of}
-use Rattle.stamp_clock.specs.Stamps.{times}
 use Rattle.endorser_cell.specs.EndorserCell.{EndorserCell}
 use Rattle.endorser_cell.specs.Cells.{cell_of, IsPlaceOf}
 use Rattle.roster_bank.specs.Roster.{members_of}

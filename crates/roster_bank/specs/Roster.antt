@@ -1,5 +1,5 @@
 -- Who the endorsers of a bank are.
-use Rattle.std.specs.Prelude.{◌≡◌, ℕ, Bool, true, false, List, map}
+use Rattle.std.specs.Prelude.{◌≡◌, ℕ, true, false, List, map}
 use Rattle.std.specs.List.{AllByRecursion}
 use Rattle.statement.specs.declared.member.Member.{Member}
 use Rattle.statement.specs.Ids.{IsRising}

@@ -1,5 +1,3 @@
-use Rattle.std.proofs.Common.{ℕ, subst}
-use Rattle.endorser_cell.specs.CellBank.{CellBank}
 use Rattle.roster_bank.proofs.Rosters.{lawful_lists}
 use Rattle.roster_bank.proofs.Counts.{counted_lists}
 use Rattle.roster_bank.proofs.roster_bank.RosterBank.into_lists.Goals as goal
