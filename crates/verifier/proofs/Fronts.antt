@@ -1,7 +1,7 @@
 -- What a chain that has the first of another's views makes of a reply.
-use Rattle.std.proofs.Common.{◌≡◌, ℕ, zero, suc, ◌+◌, ◌<◌, ◌≤◌, List, [], ◌∷◌, ◌++◌, length, Bool, true, false, Option, Some, None, Result, Ok, Err, if◌then◌else◌, inl, inr, refl, sym, ap, subst, ◌∙◌, arith}
+use Rattle.std.proofs.Common.{◌≡◌, ℕ, zero, suc, ◌+◌, ◌<◌, ◌≤◌, List, [], ◌++◌, length, true, false, Option, Some, None, Ok, Err, inl, inr, refl, sym, ap, subst, ◌∙◌, arith}
 use Rattle.std.specs.Prelude.{is_some}
-use Rattle.std.specs.Option.{option_or, option_map_or}
+use Rattle.std.specs.Option.{option_map_or}
 use Rattle.std.specs.Str.{bytes_eq}
 use Rattle.std.proofs.lemmas.Bool.{cases_Bool, cases_lt}
 use Rattle.std.proofs.lemmas.List.{get_or_append_left, take-append-le, length-append}
@@ -13,14 +13,12 @@ use Rattle.statement.specs.declared.statement.Statement.TheVariants.{Held, Lates
 use Rattle.statement.specs.Statement.{view_of, statement_bytes}
 use Rattle.statement.specs.Receipt.{Receipt}
 use Rattle.port.specs.Reply.{Standing, LatestReply}
-use Rattle.view_ledger.specs.declared.receipt_fault.ReceiptFault.{ReceiptFault}
 use Rattle.view_ledger.specs.Views.{newest_tail, tail_at, config_at, newest_below, number_of}
 use Rattle.view_ledger.specs.Receipts.{Accepts, marks_fault, receipt_outcome}
 use Rattle.view_ledger.specs.Tails.{newest_below-found}
-use Rattle.verifier.specs.declared.reply_fault.ReplyFault.{ReplyFault}
 use Rattle.verifier.specs.declared.reply_fault.ReplyFault.TheVariants.{UnknownView}
 use Rattle.verifier.specs.Fronts.{AreFirstOf, HaveOwnTails}
-use Rattle.verifier.specs.Outcomes.{first_failed, bad_receipt, is_known, standing_tests, standing_fault, latest_tests, unless, latest_by}
+use Rattle.verifier.specs.Outcomes.{is_known, standing_fault, latest_by}
 
 -- the one view that has a tail is found
 module _ (configs : List (List Member)) (tail : List ℕ) (own : HaveOwnTails configs) (m : ℕ) (below : m < length configs) (is : tail_at configs m ≡ tail) where

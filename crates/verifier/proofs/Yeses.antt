@@ -1,5 +1,5 @@
 -- What a yes says, and that it comes wherever that holds.
-use Rattle.std.proofs.Common.{◌≡◌, ℕ, ◌+◌, List, [], ◌∷◌, length, replicate, Bool, true, false, ◌&&◌, eqb, Option, Some, None, Result, Ok, Err, inl, inr, refl, sym, ap, subst, ◌∙◌}
+use Rattle.std.proofs.Common.{◌≡◌, ℕ, ◌+◌, List, [], ◌∷◌, length, replicate, Bool, true, ◌&&◌, eqb, Option, Some, None, Result, Ok, Err, inl, inr, refl, sym, ap, subst, ◌∙◌}
 use Rattle.std.specs.Prelude.{is_some}
 use Rattle.std.specs.List.{AllByRecursion}
 use Rattle.std.specs.Option.{option_or}
@@ -9,7 +9,7 @@ use Rattle.std.proofs.lemmas.Slice.Eq.{bytes_eq-Decides}
 use Rattle.nim_base.specs.Text.{Content as Text}
 use Rattle.chain_block.specs.declared.entry.Entry.{Entry}
 use Rattle.chain_block.specs.declared.entry.Entry.TheVariants.{Genesis, Later}
-use Rattle.chain_block.specs.Entry.{bare, entry_digest, handle_of, height_of}
+use Rattle.chain_block.specs.Entry.{entry_digest, handle_of, height_of}
 use Rattle.chain_block.specs.Links.{Links}
 use Rattle.statement.specs.declared.member.Member.{Member}
 use Rattle.statement.specs.declared.statement.Statement.{Statement}
@@ -23,7 +23,7 @@ use Rattle.view_ledger.specs.Views.{number_of}
 use Rattle.view_ledger.specs.Receipts.{Accepts, receipt_outcome}
 use Rattle.view_ledger.specs.ReceiptLaws.{accepted as receipt_accepted, accepts_it as accepted_receipt}
 use Rattle.verifier.specs.declared.reply_fault.ReplyFault.{ReplyFault}
-use Rattle.verifier.specs.Outcomes.{first_failed, bad_receipt, is_known, is_text, is_entry, is_own, is_row_of, row_tail, are_linked, standing_tests, standing_fault, is_newest, has_row, is_tail, latest_tests, unless, latest_by}
+use Rattle.verifier.specs.Outcomes.{first_failed, bad_receipt, is_known, is_text, is_entry, is_own, is_row_of, row_tail, standing_tests, standing_fault, is_newest, has_row, is_tail, latest_tests, unless, latest_by}
 use Rattle.verifier.specs.Yes.{IsAcceptedInSome, IsRowAt, Stands, IsNewest, IsLatest}
 use Rattle.verifier.proofs.Linked.{linked, linked-true}
 

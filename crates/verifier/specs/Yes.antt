@@ -1,8 +1,7 @@
 -- What a yes says of a reply.
 use Rattle.std.specs.Prelude.{◌≡◌, ℕ, ◌+◌, List, [], ◌∷◌, length, replicate, Option, Some, None}
-use Rattle.chain_block.specs.Entry.{bare, entry_digest, handle_of, height_of}
+use Rattle.chain_block.specs.Entry.{entry_digest, handle_of, height_of}
 use Rattle.chain_block.specs.Links.{Links}
-use Rattle.chain_block.specs.declared.entry.Entry.{Entry}
 use Rattle.statement.specs.declared.member.Member.{Member}
 use Rattle.statement.specs.declared.statement.Statement.TheVariants.{Held, Latest}
 use Rattle.port.specs.Row.{Content}

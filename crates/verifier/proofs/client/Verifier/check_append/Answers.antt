@@ -1,7 +1,6 @@
-use Rattle.std.proofs.Common.{◌≡◌, ℕ, List, Option, Some, None, rules, sym, ◌∙◌, refl}
+use Rattle.std.proofs.Common.{◌≡◌, Some, rules, sym, ◌∙◌, refl}
 use Rattle.chain_block.specs.Entry.{bare, handle_of, height_of}
 use Rattle.verifier.specs.Outcomes.{standing_fault}
-use Rattle.verifier.specs.declared.reply_fault.ReplyFault.{ReplyFault}
 use Rattle.verifier.proofs.Yeses.{stands, fits, some_none, entry_same, same_entry}
 use Rattle.verifier.proofs.client.Verifier.check_append.Goals as goal
 
