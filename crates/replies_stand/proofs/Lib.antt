@@ -1,0 +1,4 @@
+pub mod Standings
+pub mod Newest
+pub mod Judges
+pub mod Saying
