@@ -1,0 +1,8 @@
+use Rattle.client_pass.specs.Act.{Look}
+use Rattle.reply_taking.proofs.Growing.{grows_again, reply_grows}
+use Rattle.reply_taking.proofs.taking.look.Goals as goal
+
+pub returns-clause-grows : goal.returns-clause-grows
+returns-clause-grows g c =
+    grows_again c.args.pass.now c.learn.new.pass c.look.new.self c.learn.ensures.grows
+    (reply_grows c.learn.new.pass c.look.new.self (Look c.args.handle.now c.args.height c.args.reply.now) c.look.result c.look.ensures.noted c.look.ensures.same)
