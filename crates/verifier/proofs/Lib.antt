@@ -1,3 +1,4 @@
 pub mod Linked
 pub mod Yeses
 pub mod Fronts
+pub mod Collisions

@@ -1,16 +1,20 @@
 // What the outcomes of the checks mean, and what clients of different chains make of one reply.
-ghost use Rattle.std.specs.Prelude.{◌≡◌, ◌↔◌, ℕ, true, false, List, Some, None, Ok, Err};
+ghost use Rattle.std.specs.Prelude.{◌≡◌, ◌≢◌, ◌↔◌, ◌^◌, ◌<◌, ℕ, true, false, List, length, Some, None, Ok, Err};
 ghost use Rattle.chain_block.specs.declared.entry.Entry.{Entry};
 ghost use Rattle.chain_block.specs.Entry.{bare, handle_of, height_of};
+ghost use Rattle.sha2.specs.Sha256.{sha256};
 ghost use Rattle.statement.specs.declared.member.Member.{Member};
 ghost use Rattle.statement.specs.declared.statement.Statement.TheVariants.{Held, Latest};
 ghost use Rattle.statement.specs.Statement.{view_of};
 ghost use Rattle.port.specs.Reply.{Standing, LatestReply};
 ghost use Rattle.view_ledger.specs.Receipts.{Accepts};
+ghost use Rattle.view_ledger.specs.Views.{tail_at};
 ghost use Rattle.verifier.specs.declared.reply_fault.ReplyFault.TheVariants.{UnknownView};
 ghost use Rattle.verifier.specs.Fronts.{AreFirstOf, HaveOwnTails};
 ghost use Rattle.verifier.specs.Outcomes.{is_known, append_outcome, at_outcome, latest_outcome};
 ghost use Rattle.verifier.specs.Yes.{Stands, IsLatest};
+
+use statement::view_blocks_have_own_bytes;
 
 /// What it means that a reply has no fault, without a call of a check.
 pub fn outcomes_mean()
@@ -44,3 +48,11 @@ pub fn fronts_judge_alike()
         → reply.receipt.statement ≡ Latest view handle tail count nonce → is_known front view ≡ false
         → latest_outcome accepts front asked asked_nonce reply ≡ Err UnknownView }
 {}
+
+/// Two views of a chain with one tail show two texts with one SHA-256 digest.
+pub fn shared_tails_collide()
+    ensures { (configs : List (List Member)) (one other : ℕ) → length configs < 2 ^ 64 → one < length configs → other < length configs → one ≢ other
+        → tail_at configs one ≡ tail_at configs other → (a b : List ℕ) × (a ≢ b) × (sha256 a ≡ sha256 b) }
+{
+    view_blocks_have_own_bytes();
+}
