@@ -7,8 +7,8 @@ use coordinator::Coordinator;
 use nim_base::{Digest, NoMemory};
 use port::{Link, Refusal, Service, Store, ViewRow};
 use seal::Checker;
-use std::alloc::Global;
 use stamp_clock::{Clock, ClockName};
+use std::alloc::Global;
 
 /// Lets the client know the view with this tail, if it can. Where its chain doesn't have it, the coordinator is asked for the views
 /// above the newest one of the chain, and each of them is taken; a refusal leaves the chain as it is. A client without a stamp left is

@@ -34,7 +34,13 @@ pub fn take_own<S: Store, L: Link, C: Checker, K: ClockName>(
     ensures again { result ≡ Err Again → IsAnswered pass.old.lines draw }
 {
     draws_stay();
-    learn(alloc, clock, coordinator, pass, &reply.receipt.statement.view())?;
+    learn(
+        alloc,
+        clock,
+        coordinator,
+        pass,
+        &reply.receipt.statement.view(),
+    )?;
     if pass.left() == 0 {
         return Err(TakeFault::NoMemory);
     }
@@ -61,7 +67,13 @@ pub fn take_latest<S: Store, L: Link, C: Checker, K: ClockName>(
     ensures again { result ≡ Err Again → IsAnswered pass.old.lines draw }
 {
     draws_stay();
-    learn(alloc, clock, coordinator, pass, &reply.receipt.statement.view())?;
+    learn(
+        alloc,
+        clock,
+        coordinator,
+        pass,
+        &reply.receipt.statement.view(),
+    )?;
     if pass.left() == 0 {
         return Err(TakeFault::NoMemory);
     }
@@ -83,7 +95,13 @@ pub fn take_at<S: Store, L: Link, C: Checker, K: ClockName>(
     ensures outcome { IfReplyNoted result (λ fault. fault ≡ at_outcome (C.accepts pass.old.checker) pass.new.chain.configs handle.now height reply.now) }
     ensures never_again { result ≢ Err Again }
 {
-    learn(alloc, clock, coordinator, pass, &reply.receipt.statement.view())?;
+    learn(
+        alloc,
+        clock,
+        coordinator,
+        pass,
+        &reply.receipt.statement.view(),
+    )?;
     if pass.left() == 0 {
         return Err(TakeFault::NoMemory);
     }
@@ -105,7 +123,13 @@ pub fn look<S: Store, L: Link, C: Checker, K: ClockName>(
     ensures outcome { IfReplyNoted result (λ fault. fault ≡ at_outcome (C.accepts pass.old.checker) pass.new.chain.configs handle.now height reply.now) }
     ensures never_again { result ≢ Err Again }
 {
-    learn(alloc, clock, coordinator, pass, &reply.receipt.statement.view())?;
+    learn(
+        alloc,
+        clock,
+        coordinator,
+        pass,
+        &reply.receipt.statement.view(),
+    )?;
     if pass.left() == 0 {
         return Err(TakeFault::NoMemory);
     }

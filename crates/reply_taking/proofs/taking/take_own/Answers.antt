@@ -1,5 +1,4 @@
 use Rattle.std.proofs.Common.{◌≡◌, List, refl, sym, subst}
-use Rattle.chain_block.specs.declared.entry.Entry.{Entry}
 use Rattle.view_ledger.specs.Views.{ViewChain}
 use Rattle.verifier.specs.Outcomes.{append_outcome}
 use Rattle.client_pass.specs.Act.{Line, Append}
