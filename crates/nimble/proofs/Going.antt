@@ -15,7 +15,7 @@ use Rattle.nimble.specs.Replies.{Ledgers, set}
 use Rattle.nimble.specs.Acks.{Place, begin, genesis_digest, next, nonce}
 use Rattle.nimble.specs.Service.{AllGo}
 use Rattle.nimble.specs.SetUp.{first_entries, label_texts, made, set_up_texts}
-use Rattle.nimble.specs.Collision.{NoCollision}
+use Rattle.least_collision.specs.Collision.{NoCollision}
 use Rattle.nimble.proofs.Bytes.{same_bytes}
 
 -- numbers of nonces are told by their bytes

@@ -1,7 +1,6 @@
 mod Arity
 mod Bytes
 mod Carried
-mod Collisions
 mod EndorserLemmas
 mod Going
 mod Joined

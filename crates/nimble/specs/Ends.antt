@@ -8,7 +8,7 @@ use Rattle.nimble.specs.Reply.{bad_script_line, exhibit_line}
 use Rattle.nimble.specs.Script.{script_of}
 use Rattle.nimble.specs.Replies.{empty, replies}
 use Rattle.nimble.specs.SetUp.{set_up_texts}
-use Rattle.nimble.specs.Collision.{IsLeastCollision, NoCollision}
+use Rattle.least_collision.specs.Collision.{IsLeastCollision, NoCollision}
 
 -- the set-up texts of a script don't collide, and these are its reply lines
 abbrev pub AreReplies : List Line → List ℕ → Type 0

@@ -10,5 +10,4 @@ pub mod Rows
 pub mod Acks
 pub mod Service
 pub mod SetUp
-pub mod Collision
 pub mod Ends

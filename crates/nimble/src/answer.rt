@@ -4,12 +4,12 @@ ghost use Rattle.nimble.specs.Ends.{IsSaid};
 ghost use Rattle.nimble.specs.Script.{script_of};
 ghost use Rattle.nimble.specs.Seen.{IsRead, lines_seen};
 
-use crate::collision::least_collision;
 use crate::path::{FirstRun, first_path};
 use crate::reply::exhibit_line;
 use crate::script::{FirstScript, read_script};
 use crate::set_up::set_up_texts;
 use crate::status::Status;
+use least_collision::least_collision;
 use nim_base::{NoMemory, Text};
 use std::alloc::Global;
 

@@ -2,13 +2,12 @@
 //!
 //! A request travels through these modules in this order: [`run`] takes the words, [`replay`] the
 //! source and the sink, [`input`] reads the bytes, [`answer`] says what is said to them; [`script`],
-//! [`line`] and [`words`] make lines of them, [`set_up`] and [`collision`] look through the texts
-//! that the script rests on, [`path`] goes from line to line, [`service`] answers one over the stored
-//! [`rows`] and its [`endorser`]s, and [`reply`] writes the answer.
+//! [`line`] and [`words`] make lines of them, [`set_up`] gives the texts that the script rests on,
+//! which [`answer`] has `least_collision` look through, [`path`] goes from line to line, [`service`]
+//! answers one over the stored [`rows`] and its [`endorser`]s, and [`reply`] writes the answer.
 #![tactic(auto)]
 
 pub mod answer;
-pub mod collision;
 pub mod endorser;
 pub mod input;
 pub mod line;

@@ -1,7 +1,7 @@
 ghost use Rattle.std.specs.Prelude.{◌≡◌, All, IfOk, length, map};
 ghost use Rattle.nimble.specs.Acks.{AllCarried, AppendJust, acks, begin, members};
 ghost use Rattle.nimble.specs.Calls.{AllStandAlone};
-ghost use Rattle.nimble.specs.Collision.{NoCollision};
+ghost use Rattle.least_collision.specs.Collision.{NoCollision};
 ghost use Rattle.nimble.specs.Replies.{empty, replies};
 ghost use Rattle.nimble.specs.Seen.{IsRead, lines_seen};
 ghost use Rattle.nimble.specs.SetUp.{set_up_texts};

@@ -1,4 +1,3 @@
-use crate::collision::{Digested, least_collision, least_collision_among};
 use crate::path::{FirstRun, first_path};
 use crate::replay::run_replay;
 use crate::reply::exhibit_line;
@@ -6,6 +5,7 @@ use crate::run::run;
 use crate::script::read_script;
 use crate::set_up::set_up_texts;
 use crate::status::Status;
+use least_collision::{Digested, least_collision, least_collision_among};
 use nim_base::{Digest, NoMemory, Text};
 use nim_outside::{Fault, MemSink, MemSource, Sink};
 use std::alloc::Global;

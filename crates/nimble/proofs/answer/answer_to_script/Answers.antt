@@ -1,6 +1,6 @@
 use Rattle.std.proofs.Common.{◌≡◌, inl, map, refl, ap, subst, ◌∙◌}
 use Rattle.std.specs.List.{concat}
-use Rattle.nimble.specs.Collision.{NoCollision}
+use Rattle.least_collision.specs.Collision.{NoCollision}
 use Rattle.nimble.specs.Seen.{lines_seen}
 use Rattle.nimble.specs.SetUp.{set_up_texts}
 use Rattle.nimble.proofs.Known.{concat-map}

@@ -1,10 +1,10 @@
 use Rattle.std.proofs.Common.{◌≡◌, ap, nat_cmp, subst, sym, take, take_all, ◌∙◌, ◌++◌, ◌∷◌, [], Some, arith}
 use Rattle.std.proofs.lemmas.Cmp.{nat_list_cmp_total}
 use Rattle.std.specs.Cmp.Lexicographic.{slice_cmp}
-use Rattle.nimble.specs.Collision.{DigestedText, IsPartner}
-use Rattle.nimble.proofs.Collisions.{bytes_of, IsLeast, lesser, partner_joins, partner_passes, take_push, equal_from_test, apart_from_test, equal_from_not, apart_from_not}
-use Rattle.nimble.proofs.collision.least_partner.Goals as goal
-use Rattle.nimble.proofs.collision.least_partner.Goals.{then-eq+then-ne, in-Some, in-None, else-eq, else-eq-via-then-eq+else-ne, else-eq-via-else-eq}
+use Rattle.least_collision.specs.Collision.{DigestedText, IsPartner}
+use Rattle.least_collision.proofs.Collisions.{bytes_of, IsLeast, lesser, partner_joins, partner_passes, take_push, equal_from_test, apart_from_test, equal_from_not, apart_from_not}
+use Rattle.least_collision.proofs.search.least_partner.Goals as goal
+use Rattle.least_collision.proofs.search.least_partner.Goals.{then-eq+then-ne, in-Some, in-None, else-eq, else-eq-via-then-eq+else-ne, else-eq-via-else-eq}
 
 pub loop-item-preserved : goal.loop-item-preserved
 loop-item-preserved c =

@@ -1,53 +1,11 @@
 ghost use Rattle.std.specs.Prelude.{◌≡◌, ◌≢◌, map, IfOk, IfSome, IfNone, IsSomeAnd, MatchBool, MatchOption, option_copied};
-ghost use Rattle.nimble.specs.Collision.{digested_text, HasNoPartner, IsLeastCollision, IsLeastPair, IsLeastPartner, NoCollision, NoneShareDigest, ShareDigest, SomeShareDigest};
+ghost use Rattle.least_collision.specs.Collision.{digested_text, HasNoPartner, IsLeastCollision, IsLeastPair, IsLeastPartner, NoCollision, NoneShareDigest, ShareDigest, SomeShareDigest};
 
-use nim_base::{Digest, NoMemory, Text, digest_of};
+use crate::collision::Collision;
+use crate::digested::Digested;
+use nim_base::{NoMemory, Text};
 use std::alloc::Global;
 use std::collections::BTreeMap;
-use std::marker::Model;
-
-/// A text beside its digest.
-#[derive(Debug, Drop)]
-pub struct Digested<'a> {
-    digest: Digest,
-    text: &'a [u8],
-}
-
-impl<'a> Model for Digested<'a> {
-    ghost use Rattle.nimble.specs.Collision.{DigestedText};
-
-    ghost Value = { DigestedText };
-
-    ghost view = { λ digested. record { digest = digested.digest; text = digested.text.now } };
-}
-
-impl<'a> Digested<'a> {
-    /// The text beside its SHA-256 digest.
-    pub fn of(text: &'a [u8]) -> Digested<'a>
-        ensures { result ≡ digested_text text.now }
-    {
-        Digested {
-            digest: digest_of(text),
-            text,
-        }
-    }
-
-    /// The text beside a digest that is taken as it is given.
-    pub fn given(digest: Digest, text: &'a [u8]) -> Digested<'a>
-        ensures digest { result.digest ≡ digest }
-        ensures text { result.text ≡ text.now }
-    {
-        Digested { digest, text }
-    }
-}
-
-/// Two different texts with one digest. Pairs are in the order of the first text, and then of the
-/// second; texts are in the order of their bytes.
-#[derive(Clone, Copy, Debug, PartialEq, Eq, PartialOrd, Ord)]
-pub struct Collision<'a> {
-    pub one: &'a [u8],
-    pub other: &'a [u8],
-}
 
 /// The least pair, in byte order, of different texts with one SHA-256 digest. Where there is none,
 /// each text costs its digest and one look-up in a map.

@@ -10,8 +10,8 @@ use Rattle.std.proofs.lemmas.Slice.Eq.{bytes_eq-Decides}
 use Rattle.std.proofs.lemmas.List.Elements.{Contains-append_left, Contains-push, Contains-push_cases}
 use Rattle.std.proofs.lemmas.Map.Lookups.{exact_bytes}
 use Rattle.sha2.specs.Sha256.{sha256}
-use Rattle.nimble.specs.declared.collision.Collision.{Collision}
-use Rattle.nimble.specs.Collision.{DigestedText, digested_text, IsCollision, NoCollision, pair_cmp, IsLeastPair, IsLeastCollision, IsGiven, ShareDigest, NoneShareDigest, IsPartner}
+use Rattle.least_collision.specs.declared.collision.Collision.{Collision}
+use Rattle.least_collision.specs.Collision.{DigestedText, digested_text, IsCollision, NoCollision, pair_cmp, IsLeastPair, IsLeastCollision, IsGiven, ShareDigest, NoneShareDigest, IsPartner}
 
 -- what a borrow shows
 abbrev pub bytes_of : Bor (List ℕ) → List ℕ

@@ -1,9 +1,9 @@
 use Rattle.std.proofs.Common.{◌≡◌, ap, subst, sym, take, take_all, ◌∙◌, ◌++◌, ◌∷◌, [], Some, arith}
-use Rattle.nimble.specs.declared.collision.Collision.{Collision}
-use Rattle.nimble.specs.Collision.{DigestedText}
-use Rattle.nimble.proofs.Collisions.{IsLeast, least_shares, lesser, pair_joins, pair_of, pair_passes, pairs_cmp, pairs_total, StartsIn, take_push}
-use Rattle.nimble.proofs.collision.least_pair.Goals as goal
-use Rattle.nimble.proofs.collision.least_pair.Goals.{in-Some, in-Some-least, in-None, in_default}
+use Rattle.least_collision.specs.declared.collision.Collision.{Collision}
+use Rattle.least_collision.specs.Collision.{DigestedText}
+use Rattle.least_collision.proofs.Collisions.{IsLeast, least_shares, lesser, pair_joins, pair_of, pair_passes, pairs_cmp, pairs_total, StartsIn, take_push}
+use Rattle.least_collision.proofs.search.least_pair.Goals as goal
+use Rattle.least_collision.proofs.search.least_pair.Goals.{in-Some, in-Some-least, in-None, in_default}
 
 pub loop-item-preserved : goal.loop-item-preserved
 loop-item-preserved c =

@@ -3,8 +3,8 @@ use Rattle.std.specs.Option.{option_copied}
 use Rattle.std.specs.Ordering.{nat_cmp}
 use Rattle.std.specs.Cmp.Lexicographic.{slice_cmp}
 use Rattle.std.specs.BTreeMap.{get}
-use Rattle.nimble.proofs.Collisions.{Known}
-use Rattle.nimble.proofs.collision.has_collision.Given as goal
+use Rattle.least_collision.proofs.Collisions.{Known}
+use Rattle.least_collision.proofs.search.has_collision.Given as goal
 
 -- the map has what is known of the texts so far
 abbrev pub invariant-loop-item : goal.invariant-loop-item

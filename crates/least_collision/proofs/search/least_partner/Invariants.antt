@@ -1,9 +1,9 @@
 use Rattle.std.proofs.Common.{take, nat_cmp}
 use Rattle.std.specs.Cmp.Lexicographic.{slice_cmp}
 use Rattle.std.proofs.lemmas.Cmp.{nat_list_cmp_total}
-use Rattle.nimble.specs.Collision.{IsPartner}
-use Rattle.nimble.proofs.Collisions.{bytes_of, IsLeast}
-use Rattle.nimble.proofs.collision.least_partner.Given as goal
+use Rattle.least_collision.specs.Collision.{IsPartner}
+use Rattle.least_collision.proofs.Collisions.{bytes_of, IsLeast}
+use Rattle.least_collision.proofs.search.least_partner.Given as goal
 
 abbrev pub invariant-loop-item : goal.invariant-loop-item
 invariant-loop-item l =

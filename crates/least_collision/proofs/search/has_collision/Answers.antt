@@ -1,9 +1,9 @@
 use Rattle.std.proofs.Common.{◌≡◌, ◌≢◌, ap, arith, IfSome, IsSomeAnd, nat_cmp, option_copied, subst, sym, take, take_all, ◌∙◌}
 use Rattle.std.specs.BTreeMap.{get}
 use Rattle.std.specs.Cmp.Lexicographic.{slice_cmp}
-use Rattle.nimble.specs.Collision.{DigestedText, NoneShareDigest}
-use Rattle.nimble.proofs.Collisions.{Known, Known_push, known_shares, none_share, put_shows, take_push}
-use Rattle.nimble.proofs.collision.has_collision.Goals as goal
+use Rattle.least_collision.specs.Collision.{DigestedText, NoneShareDigest}
+use Rattle.least_collision.proofs.Collisions.{Known, Known_push, known_shares, none_share, put_shows, take_push}
+use Rattle.least_collision.proofs.search.has_collision.Goals as goal
 
 pub returns-then-differs : goal.returns-then-differs
 returns-then-differs c =

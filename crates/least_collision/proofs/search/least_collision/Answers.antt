@@ -1,6 +1,6 @@
 use Rattle.std.proofs.Common.{◌∙◌}
-use Rattle.nimble.proofs.Collisions.{least_of_texts, none_of_texts}
-use Rattle.nimble.proofs.collision.least_collision.Goals as goal
+use Rattle.least_collision.proofs.Collisions.{least_of_texts, none_of_texts}
+use Rattle.least_collision.proofs.search.least_collision.Goals as goal
 
 pub returns-clause-none : goal.returns-clause-none
 returns-clause-none c = none_of_texts _ _ _ (c.deref.ensures.value ∙ c.in_ok-given.ensures) c.least_collision_among.ensures.none
