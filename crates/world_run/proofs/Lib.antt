@@ -3,3 +3,15 @@ pub mod KnownMore
 pub mod Payloads
 pub mod Ids
 pub mod SettingUp
+pub mod Nonces
+pub mod MadeLabels
+pub mod TiedLedgers
+pub mod RowCounts
+pub mod PlainReplies
+pub mod Accepting
+pub mod CalmRuns
+pub mod PlainSteps
+pub mod PlainReads
+pub mod PlainWrites
+pub mod PlainRequests
+pub mod PlainBegins

@@ -1,3 +1,5 @@
 pub mod Plain
 pub mod Seals
 pub mod SetUp
+pub mod PlainRun
+pub mod Tied

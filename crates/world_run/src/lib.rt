@@ -10,16 +10,23 @@
 //!
 //! - [`plain_replies`] gives the reply lines of a plain script. It reads all earlier lines for each line, and is meant for
 //!   comparing.
+//!
+//! Over a calm service a run prints just that. Two laws say so, line by line: [`plain_runs_begin`] of the first line, and
+//! [`plain_lines_get_plain_replies`] of each request, restart, end and new client. What ties a run to what is known of it is `IsTied`
+//! in `specs/Tied`: a calm coordinator over a store that tells no lie, one view that all clients know, and ledgers with just the known
+//! payloads. That rests on no collision among the texts of the run (`IsRunnable` in `specs/PlainRun`).
 
 #![tactic(auto)]
 
 mod known;
 mod mac_seals;
 mod plain;
+mod plain_laws;
 mod seals;
 mod set_up;
 
 pub use mac_seals::MacSeals;
 pub use plain::plain_replies;
+pub use plain_laws::{plain_lines_get_plain_replies, plain_runs_begin};
 pub use seals::Seals;
 pub use set_up::{nonce, set_up_texts};

@@ -1,0 +1,5 @@
+pub mod Nonce
+pub mod Labels
+pub mod World
+pub mod Taken
+pub mod Lines

@@ -1,0 +1,80 @@
+-- What the lines that are done at once make of a run.
+use Rattle.std.specs.Prelude.{◌≡◌, ℕ, ◌+◌, List, [], ◌∷◌, ◌++◌, length, slice_get, slice_set, Some}
+use Rattle.blob_store.specs.declared.lying_store.LyingStore.{LyingStore}
+use Rattle.blob_store.specs.LyingStore.{lying_view}
+use Rattle.chain_block.specs.Entry.{handle_of}
+use Rattle.chain_block.specs.declared.entry.Entry.{Entry}
+use Rattle.port.specs.Link.{LinkView}
+use Rattle.port.specs.Service.{ServiceCall, NewLedger, Append, Latest, At, ServiceAnswer}
+use Rattle.view_ledger.specs.Views.{ViewChain}
+use Rattle.view_ledger.specs.Receipts.{Accepts}
+use Rattle.client_pass.specs.ClientPass.{ClientPass}
+use Rattle.coordinator.specs.Entries.{first_entry, later_entry}
+use Rattle.coordinator.specs.Says.{coordinator_says}
+use Rattle.coordinator.specs.State.{State}
+use Rattle.reply_taking.specs.Learning.{Grows}
+use Rattle.script_world.specs.Labels.{Labels, handle_for, with_label}
+use Rattle.script_world.specs.Nonce.{nonce}
+use Rattle.script_world.specs.Taken.{Sides, TookOwn, TookAt, TookLatest}
+use Rattle.script_world.specs.World.{World}
+
+-- The client at this place asked the coordinator for something and took its answer. All other clients are as they were.
+pub record Asked {L C : Type 0} (accepts : C → Accepts) (link_view : L → LinkView) (old new : World L C) (place : ℕ) (call : ServiceCall) (took : Accepts → Sides LyingStore L C → ServiceAnswer → Type 0) : Type 0 where
+  pub middle : State LyingStore L C
+  pub answer : ServiceAnswer
+  pub says : coordinator_says accepts lying_view link_view old.state middle call answer
+  pub from : ClientPass C
+  pub to : ClientPass C
+  pub stood : slice_get old.clients place ≡ Some from
+  pub stands : new.clients ≡ slice_set old.clients place to
+  pub grows : Grows from to
+  pub taken : took (accepts from.checker) (record { from = from; to = to; before = middle; after = new.state }) answer
+  pub first : new.first ≡ old.first
+
+module _ {L C : Type 0} (accepts : C → Accepts) (link_view : L → LinkView) (old new : World L C) (place : ℕ) where
+  -- `new`: a nonce was drawn, and the label means the ledger of the entry
+  pub record MadeLedger (label payload line : List ℕ) : Type 0 where
+    pub asked : Asked accepts link_view old new place (NewLedger (nonce old.draws) payload)
+        (λ checks sides answer. TookOwn checks sides label (first_entry (nonce old.draws) payload) answer line)
+    pub draws : new.draws ≡ old.draws + 1
+    pub labels : new.labels ≡ with_label old.labels label (handle_of (first_entry (nonce old.draws) payload))
+
+  -- `append`: a nonce was drawn
+  pub record Appended (label : List ℕ) (height : ℕ) (payload line : List ℕ) : Type 0 where
+    pub asked : Asked accepts link_view old new place (Append (handle_for old.labels label) height (nonce old.draws) payload)
+        (λ checks sides answer. TookOwn checks sides label (later_entry (handle_for old.labels label) height (nonce old.draws) payload) answer line)
+    pub draws : new.draws ≡ old.draws + 1
+    pub labels : new.labels ≡ old.labels
+
+  -- `latest`: a nonce was drawn
+  pub record ReadNewest (label line : List ℕ) : Type 0 where
+    pub asked : Asked accepts link_view old new place (Latest (handle_for old.labels label) (nonce old.draws))
+        (λ checks sides answer. TookLatest checks sides label (handle_for old.labels label) (nonce old.draws) answer line)
+    pub draws : new.draws ≡ old.draws + 1
+    pub labels : new.labels ≡ old.labels
+
+  -- `at`
+  pub record ReadHeight (label : List ℕ) (height : ℕ) (line : List ℕ) : Type 0 where
+    pub asked : Asked accepts link_view old new place (At (handle_for old.labels label) height)
+        (λ checks sides answer. TookAt checks sides label (handle_for old.labels label) height answer line)
+    pub draws : new.draws ≡ old.draws
+    pub labels : new.labels ≡ old.labels
+
+-- `restart`: the coordinator is a new one over view 0 alone, with the same store, link and checker
+pub record Restarted {L C : Type 0} (old new : World L C) : Type 0 where
+  pub state : new.state ≡ record old.state { chain = old.first; refused = 0 }
+  pub first : new.first ≡ old.first
+  pub clients : new.clients ≡ old.clients
+  pub labels : new.labels ≡ old.labels
+  pub draws : new.draws ≡ old.draws
+
+-- a client came that did nothing yet, and knows view 0 alone
+pub record HasClientMore {L C : Type 0} (accepts : C → Accepts) (checks : Accepts) (old new : World L C) : Type 0 where
+  pub client : ClientPass C
+  pub checker : accepts client.checker ≡ checks
+  pub chain : client.chain ≡ old.first
+  pub clients : new.clients ≡ old.clients ++ client ∷ []
+  pub state : new.state ≡ old.state
+  pub first : new.first ≡ old.first
+  pub labels : new.labels ≡ old.labels
+  pub draws : new.draws ≡ old.draws

@@ -1,0 +1,16 @@
+-- What a run of a script has come to.
+use Rattle.std.specs.Prelude.{ℕ, List, Option, slice_set}
+use Rattle.blob_store.specs.declared.lying_store.LyingStore.{LyingStore}
+use Rattle.view_ledger.specs.Views.{ViewChain}
+use Rattle.client_pass.specs.ClientPass.{ClientPass}
+use Rattle.coordinator.specs.State.{State}
+use Rattle.script_world.specs.Labels.{Labels}
+
+-- The coordinator with its store and its link, the chain that has view 0 alone, the clients in the order in which they came, the ledgers
+-- of labels, and how many nonces were drawn.
+pub record World (L C : Type 0) : Type 0 where
+  pub state : State LyingStore L C
+  pub first : ViewChain
+  pub clients : List (ClientPass C)
+  pub labels : Labels
+  pub draws : ℕ
