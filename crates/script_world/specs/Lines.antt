@@ -1,19 +1,17 @@
 -- What the lines that are done at once make of a run.
-use Rattle.std.specs.Prelude.{◌≡◌, ℕ, ◌+◌, List, [], ◌∷◌, ◌++◌, length, slice_get, slice_set, Some}
+use Rattle.std.specs.Prelude.{◌≡◌, ℕ, ◌+◌, List, [], ◌∷◌, ◌++◌, slice_get, slice_set, Some}
 use Rattle.blob_store.specs.declared.lying_store.LyingStore.{LyingStore}
 use Rattle.blob_store.specs.LyingStore.{lying_view}
 use Rattle.chain_block.specs.Entry.{handle_of}
-use Rattle.chain_block.specs.declared.entry.Entry.{Entry}
 use Rattle.port.specs.Link.{LinkView}
 use Rattle.port.specs.Service.{ServiceCall, NewLedger, Append, Latest, At, ServiceAnswer}
-use Rattle.view_ledger.specs.Views.{ViewChain}
 use Rattle.view_ledger.specs.Receipts.{Accepts}
 use Rattle.client_pass.specs.ClientPass.{ClientPass}
 use Rattle.coordinator.specs.Entries.{first_entry, later_entry}
 use Rattle.coordinator.specs.Says.{coordinator_says}
 use Rattle.coordinator.specs.State.{State}
 use Rattle.reply_taking.specs.Learning.{Grows}
-use Rattle.script_world.specs.Labels.{Labels, handle_for, with_label}
+use Rattle.script_world.specs.Labels.{handle_for, with_label}
 use Rattle.script_world.specs.Nonce.{nonce}
 use Rattle.script_world.specs.Taken.{Sides, TookOwn, TookAt, TookLatest}
 use Rattle.script_world.specs.World.{World}

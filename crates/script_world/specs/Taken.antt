@@ -6,7 +6,6 @@ use Rattle.chain_block.specs.Entry.{handle_of, height_of}
 use Rattle.statement.specs.declared.member.Member.{Member}
 use Rattle.statement.specs.Statement.{view_of}
 use Rattle.port.specs.Cause.{Cause, Conflict, NoMemory}
-use Rattle.port.specs.Reply.{Standing, LatestReply}
 use Rattle.port.specs.Row.{Content}
 use Rattle.port.specs.Service.{ServiceAnswer, Stood, Replied, Refused}
 use Rattle.view_ledger.specs.Receipts.{Accepts}

@@ -1,5 +1,5 @@
 -- What a run of a script has come to.
-use Rattle.std.specs.Prelude.{ℕ, List, Option, slice_set}
+use Rattle.std.specs.Prelude.{ℕ, List}
 use Rattle.blob_store.specs.declared.lying_store.LyingStore.{LyingStore}
 use Rattle.view_ledger.specs.Views.{ViewChain}
 use Rattle.client_pass.specs.ClientPass.{ClientPass}

@@ -1,20 +1,16 @@
 -- A script that is read, whose texts have a digest each, and what a request does at once.
-use Rattle.std.specs.Prelude.{◌≡◌, ℕ, ◌+◌, ◌≤◌, Bool, List, [], ◌∷◌, ◌++◌, length, count_by, Contains}
+use Rattle.std.specs.Prelude.{◌≡◌, ℕ, ◌+◌, ◌≤◌, Bool, List, [], ◌∷◌, ◌++◌, length, count_by}
 use Rattle.std.specs.List.{flat_map, list_any}
 use Rattle.std.specs.Str.{bytes_eq}
-use Rattle.sha2.specs.Sha256.{sha256}
 use Rattle.fault_script.specs.Command.{Request, New, Append, Latest, At, Reconfigure, Command}
 use Rattle.fault_script.specs.Limits.{is_new}
 use Rattle.fault_script.specs.Within.{Fits}
 use Rattle.port.specs.Link.{LinkView}
 use Rattle.view_ledger.specs.Receipts.{Accepts}
+use Rattle.least_collision.specs.Collision.{NoCollision}
 use Rattle.script_world.specs.Lines.{MadeLedger, Appended, ReadNewest, ReadHeight}
 use Rattle.script_world.specs.World.{World}
 use Rattle.world_run.specs.SetUp.{draws_of, made_by, set_up_texts}
-
--- any two of these texts with one digest are equal
-abbrev pub NoCollision : List (List ℕ) → Type 0
-NoCollision texts = (one other : List ℕ) → Contains texts one → Contains texts other → sha256 one ≡ sha256 other → one ≡ other
 
 -- A script as it is read: each command fits after those before it, and there are no more lines, and lines that make a ledger, than there
 -- may be. No two of the texts that a run of it rests on have one digest.
