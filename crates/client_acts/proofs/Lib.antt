@@ -1,0 +1,5 @@
+mod Placing
+mod Staying
+mod Acting
+mod Adding
+mod Taking

@@ -1,0 +1,8 @@
+-- When clients acted.
+use Rattle.std.specs.Prelude.{ℕ, ◌+◌, ◌==◌, if◌then◌else◌, List, [], ◌∷◌}
+use Rattle.client_acts.specs.declared.turn.Turn.{Turn}
+
+-- how many lines the client at this place wrote in these turns
+abbrev pub lines_by : ℕ → List Turn → ℕ
+lines_by place [] = 0
+lines_by place (turn ∷ turns) = (if turn.client == place then turn.lines else 0) + lines_by place turns

@@ -1,0 +1,7 @@
+/// Some lines that a client wrote in a row, and how many calls of endorsers were noted before them.
+#[derive(Clone, Copy, Debug, PartialEq, Eq)]
+pub struct Turn {
+    pub client: usize,
+    pub calls: usize,
+    pub lines: usize,
+}
