@@ -59,7 +59,8 @@ pub fn reused_line(alloc: Global, id: u32) -> Result<Text, NoMemory>
     number_line(alloc, b"reused", u64::from(id))
 }
 
-fn payload_of(entry: &Entry) -> &[u8]
+/// The payload of an entry, as lines print it.
+pub fn payload_of(entry: &Entry) -> &[u8]
     ensures { result.now ≡ payload_of entry.now }
 {
     match entry {

@@ -15,7 +15,7 @@ mod causes;
 mod lines;
 mod names;
 
-pub use causes::{gap_line, refusal_line, reused_line};
+pub use causes::{gap_line, payload_of, refusal_line, reused_line};
 pub use lines::{
     absent_line, bad_reply_line, conflict_line, done_line, no_reply_line, ok_line, raw_line,
     view_line,

@@ -1,5 +1,4 @@
 pub mod Nonce
 pub mod Labels
 pub mod World
-pub mod Taken
 pub mod Lines

@@ -13,7 +13,7 @@ use Rattle.coordinator.specs.State.{State}
 use Rattle.reply_taking.specs.Learning.{Grows}
 use Rattle.script_world.specs.Labels.{handle_for, with_label}
 use Rattle.script_world.specs.Nonce.{nonce}
-use Rattle.script_world.specs.Taken.{Sides, TookOwn, TookAt, TookLatest}
+use Rattle.answer_lines.specs.Taken.{Sides, TookOwn, TookAt, TookLatest}
 use Rattle.script_world.specs.World.{World}
 
 -- The client at this place asked the coordinator for something and took its answer. All other clients are as they were.

@@ -2,6 +2,6 @@
 //!
 //! - `specs/World` is what a run has come to: a coordinator over a store that may lie, its clients, the ledgers that labels mean
 //!   (`specs/Labels`), and how many nonces were drawn (`specs/Nonce`).
-//! - `specs/Lines` says what each line makes of it, and `specs/Taken` what a client takes of an answer and which line is printed.
+//! - `specs/Lines` says what each line makes of it, by what a client takes of an answer (`answer_lines`).
 
 #![tactic(auto)]

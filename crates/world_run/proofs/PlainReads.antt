@@ -21,7 +21,7 @@ use Rattle.reply_lines.specs.Lines.{ok_line}
 use Rattle.script_world.specs.Labels.{handle_for}
 use Rattle.script_world.specs.Lines.{ReadNewest, ReadHeight}
 use Rattle.script_world.specs.Nonce.{nonce}
-use Rattle.script_world.specs.Taken.{Sides, TookAt, TookLatest, taken_line, latest_line, newest_line}
+use Rattle.answer_lines.specs.Taken.{Sides, TookAt, TookLatest, taken_line, latest_line, newest_line}
 use Rattle.script_world.specs.World.{World}
 use Rattle.world_run.specs.Plain.{Known, latest_reply}
 use Rattle.world_run.specs.PlainRun.{IsRunnable}

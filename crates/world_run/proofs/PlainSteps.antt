@@ -19,7 +19,7 @@ use Rattle.calm.specs.Calm.{ServiceState, with_next}
 use Rattle.coordinator.specs.CalmStates.{Tells, after as now}
 use Rattle.coordinator.specs.Says.{coordinator_says}
 use Rattle.script_world.specs.Lines.{Asked}
-use Rattle.script_world.specs.Taken.{Sides, IsQuiet, Took}
+use Rattle.answer_lines.specs.Taken.{Sides, IsQuiet, Took}
 use Rattle.script_world.specs.World.{World}
 use Rattle.world_run.specs.Plain.{Known, reply_to_request, after_request}
 use Rattle.world_run.specs.PlainRun.{IsRunnable}

@@ -31,7 +31,7 @@ use Rattle.reply_lines.specs.Lines.{ok_line, conflict_line}
 use Rattle.script_world.specs.Labels.{Labels, handle_for}
 use Rattle.script_world.specs.Lines.{MadeLedger, Appended}
 use Rattle.script_world.specs.Nonce.{nonce}
-use Rattle.script_world.specs.Taken.{Sides, TookOwn, taken_line}
+use Rattle.answer_lines.specs.Taken.{Sides, TookOwn, taken_line}
 use Rattle.script_world.specs.World.{World}
 use Rattle.world_run.specs.Plain.{Known, set, with_ledger}
 use Rattle.world_run.specs.PlainRun.{IsRunnable}

@@ -1,0 +1,168 @@
+-- A client that was given an answer, and the line that says so.
+use Rattle.std.proofs.Common.{◌≡◌, ◌≢◌, ◌⊎◌, inl, inr, ℕ, zero, suc, ◌<◌, true, List, [], ◌∷◌, length, slice_get, Option, Some, None, Result, Ok, Err, IfOk, refl, sym, ap, subst, ◌∙◌, arith}
+use Rattle.std.specs.Result.{result_err}
+use Rattle.chain_block.specs.declared.entry.Entry.{Entry}
+use Rattle.chain_block.specs.declared.entry.Entry.TheVariants as entries
+use Rattle.chain_block.specs.Entry.{bare, handle_of, height_of}
+use Rattle.statement.specs.declared.member.Member.{Member}
+use Rattle.port.specs.Link.{LinkView}
+use Rattle.port.specs.Row.{Content}
+use Rattle.port.specs.Store.{StoreView}
+use Rattle.view_ledger.specs.Receipts.{Accepts}
+use Rattle.verifier.specs.declared.reply_fault.ReplyFault.{ReplyFault}
+use Rattle.verifier.specs.Outcomes.{is_known}
+use Rattle.client_pass.specs.declared.take_fault.TakeFault.{TakeFault}
+use Rattle.client_pass.specs.declared.take_fault.TakeFault.TheVariants.{Again, NoMemory, Reply}
+use Rattle.client_pass.specs.Answers.{IfReplyNoted, answer_by}
+use Rattle.client_pass.specs.ClientList.{IsAnswered, IsForEntry, IsForRead}
+use Rattle.client_pass.specs.ClientPass.{ClientPass}
+use Rattle.coordinator.specs.State.{State}
+use Rattle.reply_lines.specs.Causes.{payload_of}
+use Rattle.reply_lines.specs.Lines.{bad_reply_line}
+use Rattle.reply_taking.specs.Learning.{Learns}
+use Rattle.client_acts.specs.ClientActs.{ClientActs}
+use Rattle.client_acts.specs.Taking.{IsUnbegun}
+use Rattle.client_acts.specs.Taking.{Took as ClientTook}
+use Rattle.answer_lines.specs.Draws.{DrewEntry, DrewRead, IsOpen}
+use Rattle.answer_lines.specs.Taken.{IsQuiet, Took, latest_line, newest_line, taken_line}
+use Rattle.answer_lines.specs.Giving.{Gave, count_by}
+
+-- ---- an entry without its room
+
+pub bare_height : (entry : Entry) → height_of entry ≡ height_of (bare entry)
+bare_height (entries.Genesis nonce payload) = refl
+bare_height (entries.Later handle height nonce payload) = refl
+
+pub bare_handle : (entry : Entry) → handle_of entry ≡ handle_of (bare entry)
+bare_handle (entries.Genesis nonce payload) = refl
+bare_handle (entries.Later handle height nonce payload) = refl
+
+pub bare_payload : (entry : Entry) → payload_of entry ≡ payload_of (bare entry)
+bare_payload (entries.Genesis nonce payload) = refl
+bare_payload (entries.Later handle height nonce payload) = refl
+
+-- ---- the client at a place
+
+pub found : {X : Type 0} (xs : List X) (place : ℕ) → place < length xs → (x : X) × (slice_get xs place ≡ Some x)
+found [] place within = absurd omega (arith, within)
+found (x ∷ xs) zero within = (x, refl)
+found (x ∷ xs) (suc place) within = found xs place (omega (arith, within))
+
+pub within : {X : Type 0} (xs : List X) (place : ℕ) (x : X) → slice_get xs place ≡ Some x → place < length xs
+within [] place x stood = absurd cc
+within (y ∷ xs) zero x stood = omega arith
+within (y ∷ xs) (suc place) x stood = omega (arith, within xs place x stood)
+
+module _ {C : Type 0} (clients : List (ClientPass C)) (place draw : ℕ) (from : ClientPass C) where
+  pub drew_entry : (entry : Entry) → DrewEntry clients place draw entry → slice_get clients place ≡ Some from → IsForEntry from.lines draw entry
+  drew_entry entry (pass, stood, is_for) here =
+      let same : pass ≡ from = cc (stood, here) in
+      subst (λ (pass : ClientPass C). IsForEntry pass.lines draw entry) same is_for
+
+  pub drew_read : (nonce : List ℕ) → DrewRead clients place draw nonce → slice_get clients place ≡ Some from → IsForRead from.lines draw nonce
+  drew_read nonce (pass, stood, is_for) here =
+      let same : pass ≡ from = cc (stood, here) in
+      subst (λ (pass : ClientPass C). IsForRead pass.lines draw nonce) same is_for
+
+-- ---- what the client's check said
+
+noted_by : (taken : Result (Unit {0}) TakeFault) (fault : Option ReplyFault) (P : Option ReplyFault → Type 0) → taken ≡ answer_by fault → IfReplyNoted taken P → P fault
+noted_by taken None P is noted = subst (λ r. IfReplyNoted r P) is noted
+noted_by taken (Some fault) P is noted = subst (λ r. IfReplyNoted r P) is noted
+
+answered : (fault : Option ReplyFault) → answer_by fault ≡ Err NoMemory → ⊥
+answered None is = absurd cc is
+answered (Some fault) is = absurd cc is
+
+counted : (outcome : Result ℕ ReplyFault) → count_by outcome ≡ Err NoMemory → ⊥
+counted (Ok count) is = absurd cc is
+counted (Err fault) is = absurd cc is
+
+told_fault : (fault : ReplyFault) (outcome : Result ℕ ReplyFault) → Some fault ≡ result_err outcome → Err fault ≡ outcome
+told_fault fault (Ok count) is = absurd cc is
+told_fault fault (Err other) is =
+    let same : fault ≡ other = cc is in
+    ap (λ (f : ReplyFault). Err f) same
+
+count_noted : (taken : Result ℕ TakeFault) (told outcome : Result ℕ ReplyFault) → taken ≡ count_by told
+    → IfReplyNoted taken (λ fault. fault ≡ result_err outcome) → IfOk taken (λ count. outcome ≡ Ok count) → told ≡ outcome
+count_noted taken (Ok count) outcome is fault ok = sym (subst (λ r. IfOk r (λ count. outcome ≡ Ok count)) is ok)
+count_noted taken (Err fault) outcome is noted ok = told_fault fault outcome (subst (λ r. IfReplyNoted r (λ fault. fault ≡ result_err outcome)) is noted)
+
+-- ---- the line of what the check said
+
+module _ {T E : Type 0} (bytes : T → List ℕ) where
+  pub reply_line : (line : Result T E) (fault : TakeFault) (reply : ReplyFault) → fault ≡ Reply reply → IfOk line (λ l. bytes l ≡ bad_reply_line reply)
+      → IfOk line (λ l. (told : ReplyFault) × (fault ≡ Reply told) × (bytes l ≡ bad_reply_line told))
+  reply_line (Err want) fault reply is printed = tt
+  reply_line (Ok l) fault reply is printed = (reply, is, printed)
+
+  pub fault_line : (line : Result T E) (accepted : List ℕ) (taken : Result (Unit {0}) TakeFault) (fault : TakeFault) → taken ≡ Err fault
+      → IfOk line (λ l. (told : ReplyFault) × (fault ≡ Reply told) × (bytes l ≡ bad_reply_line told))
+      → IfOk line (λ l. (told : Option ReplyFault) × (taken ≡ answer_by told) × (bytes l ≡ taken_line accepted told))
+  fault_line (Err want) accepted taken fault is printed = tt
+  fault_line (Ok l) accepted taken fault is (told, same, printed) = (Some told, is ∙ ap (λ (f : TakeFault). Err f) same, printed)
+
+  pub latest_row_line : (line : Result T E) (label : List ℕ) (row : Option Content) (taken : Result ℕ TakeFault) (count : ℕ) → taken ≡ Ok count
+      → IfOk line (λ l. bytes l ≡ newest_line label row) → IfOk line (λ l. (told : Result ℕ ReplyFault) × (taken ≡ count_by told) × (bytes l ≡ latest_line label row told))
+  latest_row_line (Err want) label row taken count is printed = tt
+  latest_row_line (Ok l) label row taken count is printed = (Ok count, is, printed)
+
+  pub latest_fault_line : (line : Result T E) (label : List ℕ) (row : Option Content) (taken : Result ℕ TakeFault) (fault : TakeFault) → taken ≡ Err fault
+      → IfOk line (λ l. (told : ReplyFault) × (fault ≡ Reply told) × (bytes l ≡ bad_reply_line told))
+      → IfOk line (λ l. (told : Result ℕ ReplyFault) × (taken ≡ count_by told) × (bytes l ≡ latest_line label row told))
+  latest_fault_line (Err want) label row taken fault is printed = tt
+  latest_fault_line (Ok l) label row taken fault is (told, same, printed) = (Err told, is ∙ ap (λ (f : TakeFault). Err f) same, printed)
+
+module _ {S L C : Type 0} (accepts : C → Accepts) (store_view : S → StoreView) (link_view : L → LinkView) (old new : ClientActs C) (before after : State S L C) where
+  quiet : {A : Type 0} (taken : Result A TakeFault) (from to : ClientPass C) (view : List ℕ) → (taken ≡ Err NoMemory → ⊥)
+      → Learns accepts store_view link_view before after from to view ⊎ IsUnbegun old new before after taken
+      → is_known from.chain.configs view ≡ true → IsQuiet (record { from = from; to = to; before = before; after = after })
+  quiet taken from to view some (inl learns) known = learns.known known
+  quiet taken from to view some (inr unbegun) known = absurd (some unbegun.0)
+
+  -- the line of a reply that was checked
+  pub gave_line : {T E : Type 0} (line : Result T E) (bytes : T → List ℕ) (place : ℕ) (view : List ℕ) (taken : Result (Unit {0}) TakeFault) (P : ClientPass C → ClientPass C → Type 0)
+      (accepted wanted : List ℕ) (outcome : List (List Member) → Option ReplyFault) → accepted ≡ wanted
+      → ClientTook accepts store_view link_view old new before after place view taken P
+      → ((from to : ClientPass C) → slice_get old.clients place ≡ Some from → P from to → IfReplyNoted taken (λ fault. fault ≡ outcome to.chain.configs))
+      → IfOk line (λ l. (fault : Option ReplyFault) × (taken ≡ answer_by fault) × (bytes l ≡ taken_line accepted fault))
+      → IfOk line (λ l. Gave old new place before after (λ sides. Took sides view (λ configs. taken_line wanted (outcome configs)) (bytes l)))
+  gave_line (Err fault) bytes place view taken P accepted wanted outcome same took says printed = tt
+  gave_line (Ok l) bytes place view taken P accepted wanted outcome same took says (fault, is, line) =
+      let had : fault ≡ outcome took.to.chain.configs = noted_by taken fault (λ fault. fault ≡ outcome took.to.chain.configs) is (says took.from took.to took.acts.stood took.says) in (
+        took.from,
+        took.to,
+        took.acts,
+        record {
+          known = quiet taken took.from took.to view (λ none. answered fault (sym is ∙ none)) took.learns;
+          printed = line ∙ ap (λ (text : List ℕ). taken_line text fault) same ∙ ap (λ (fault : Option ReplyFault). taken_line wanted fault) had;
+        },
+      )
+
+  -- the same for a latest read
+  pub gave_latest_line : {T E : Type 0} (line : Result T E) (bytes : T → List ℕ) (place : ℕ) (view : List ℕ) (taken : Result ℕ TakeFault) (P : ClientPass C → ClientPass C → Type 0)
+      (label : List ℕ) (row : Option Content) (outcome : List (List Member) → Result ℕ ReplyFault)
+      → ClientTook accepts store_view link_view old new before after place view taken P
+      → ((from to : ClientPass C) → slice_get old.clients place ≡ Some from → P from to → IfReplyNoted taken (λ fault. fault ≡ result_err (outcome to.chain.configs)))
+      → ((from to : ClientPass C) → slice_get old.clients place ≡ Some from → P from to → IfOk taken (λ count. outcome to.chain.configs ≡ Ok count))
+      → IfOk line (λ l. (told : Result ℕ ReplyFault) × (taken ≡ count_by told) × (bytes l ≡ latest_line label row told))
+      → IfOk line (λ l. Gave old new place before after (λ sides. Took sides view (λ configs. latest_line label row (outcome configs)) (bytes l)))
+  gave_latest_line (Err fault) bytes place view taken P label row outcome took says counts printed = tt
+  gave_latest_line (Ok l) bytes place view taken P label row outcome took says counts (told, is, line) =
+      let had : told ≡ outcome took.to.chain.configs =
+      count_noted taken told (outcome took.to.chain.configs) is (says took.from took.to took.acts.stood took.says) (counts took.from took.to took.acts.stood took.says) in (
+        took.from,
+        took.to,
+        took.acts,
+        record {
+          known = quiet taken took.from took.to view (λ none. counted told (sym is ∙ none)) took.learns;
+          printed = line ∙ ap (λ (told : Result ℕ ReplyFault). latest_line label row told) had;
+        },
+      )
+
+  -- an open draw has no reply yet
+  pub never_again : {A : Type 0} (place draw : ℕ) (view : List ℕ) (taken : Result A TakeFault) (P : ClientPass C → ClientPass C → Type 0) → IsOpen old.clients place draw
+      → ClientTook accepts store_view link_view old new before after place view taken P
+      → ((from to : ClientPass C) → P from to → taken ≡ Err Again → IsAnswered from.lines draw) → taken ≢ Err Again
+  never_again place draw view taken P unanswered took says again = unanswered took.from took.acts.stood (says took.from took.to took.says again)

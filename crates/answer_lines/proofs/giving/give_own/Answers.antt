@@ -1,0 +1,42 @@
+use Rattle.std.proofs.Common.{ℕ, List, IfOk, sym, ap, subst, ◌∙◌}
+use Rattle.chain_block.specs.Entry.{bare, height_of}
+use Rattle.nim_base.specs.Text.{Content as TextContent}
+use Rattle.port.specs.Service.{ServiceAnswer, stood}
+use Rattle.statement.specs.Statement.{view_of}
+use Rattle.verifier.specs.Outcomes.{append_outcome}
+use Rattle.reply_lines.specs.Causes.{payload_of}
+use Rattle.reply_lines.specs.Lines.{ok_line}
+use Rattle.answer_lines.specs.Giving.{Gave}
+use Rattle.answer_lines.specs.Taken.{TookOwn}
+use Rattle.answer_lines.proofs.Given.{bare_height, bare_payload, drew_entry, gave_line, within}
+use Rattle.answer_lines.proofs.giving.give_own.Goals as goal
+
+pub returns-in_ok-accepted-in-Ok-clause-took : goal.returns-in_ok-accepted-in-Ok-clause-took
+returns-in_ok-accepted-in-Ok-clause-took g c =
+    let standing = c.in-Ok.standing in
+    let entry = c.args.entry.now in
+    let label = c.args.label.now in
+    subst (λ (answer : ServiceAnswer). IfOk c.taken_line.result (λ line. Gave c.args.acts.now c.take_own-taken.new.self c.args.client c.args.coordinator.now c.take_own-taken.new.coordinator (λ sides. TookOwn g.K.RunName.accepts sides label (bare entry) answer line.bytes)))
+    (ap stood (sym c.in-Ok.is))
+    (gave_line g.C.Checker.accepts g.S.Store.view g.L.Link.view c.args.acts.now c.take_own-taken.new.self c.args.coordinator.now c.take_own-taken.new.coordinator
+    c.taken_line.result (λ (text : TextContent). text.bytes) c.args.client (view_of standing.receipt.statement) c.take_own-taken.result _
+    c.in_ok-accepted-in-Ok.accepted.bytes (ok_line label (height_of (bare entry)) (payload_of (bare entry)))
+    (λ configs. append_outcome g.K.RunName.accepts configs (bare entry) standing)
+    (c.in_ok-accepted-in-Ok.ensures
+    ∙ ap (λ (height : ℕ). ok_line label height c.payload_of.result.now) (c.height.ensures ∙ bare_height entry)
+    ∙ ap (λ (payload : List ℕ). ok_line label (height_of (bare entry)) payload) (c.payload_of.ensures ∙ bare_payload entry))
+    c.take_own-taken.ensures
+    (λ from to here says. says.0 (bare entry) (drew_entry c.args.acts.now.clients c.args.client c.args.draw from (bare entry) c.requires.drawn here)) c.taken_line.ensures)
+
+pub returns-in_ok-accepted-in-Ok-clause-stays : goal.returns-in_ok-accepted-in-Ok-clause-stays
+returns-in_ok-accepted-in-Ok-clause-stays g c =
+    let took = c.take_own-taken.ensures in
+    c.clients_stay_on.ensures.acts c.args.acts.now c.take_own-taken.new.self c.args.client took.from took.to took.acts
+
+pub returns-in-Err-clause-took : goal.returns-in-Err-clause-took
+returns-in-Err-clause-took g c =
+    subst (λ (answer : ServiceAnswer). IfOk c.give_own_refusal.result (λ line. Gave c.args.acts.now c.give_own_refusal.new.acts c.args.client c.args.coordinator.now c.give_own_refusal.new.coordinator (λ sides. TookOwn g.K.RunName.accepts sides c.args.label.now (bare c.args.entry.now) answer line.bytes)))
+    (ap stood (sym c.in-Err.is)) c.give_own_refusal.ensures.took
+
+pub give_own_refusal-requires-clause-client : goal.give_own_refusal-requires-clause-client
+give_own_refusal-requires-clause-client g c = within c.args.acts.now.clients c.args.client c.requires.drawn.0 c.requires.drawn.1

@@ -1,0 +1,4 @@
+pub mod Asking
+pub mod Taken
+pub mod Draws
+pub mod Giving
