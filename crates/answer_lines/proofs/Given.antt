@@ -1,5 +1,5 @@
 -- A client that was given an answer, and the line that says so.
-use Rattle.std.proofs.Common.{◌≡◌, ◌≢◌, ◌⊎◌, inl, inr, ℕ, zero, suc, ◌<◌, true, List, [], ◌∷◌, length, slice_get, Option, Some, None, Result, Ok, Err, IfOk, refl, sym, ap, subst, ◌∙◌, arith}
+use Rattle.std.proofs.Common.{◌≡◌, ◌⊎◌, inl, inr, ℕ, zero, suc, ◌<◌, true, List, [], ◌∷◌, length, slice_get, Option, Some, None, Result, Ok, Err, IfOk, refl, sym, ap, subst, ◌∙◌, arith}
 use Rattle.std.specs.Result.{result_err}
 use Rattle.chain_block.specs.declared.entry.Entry.{Entry}
 use Rattle.chain_block.specs.declared.entry.Entry.TheVariants as entries
@@ -12,9 +12,9 @@ use Rattle.view_ledger.specs.Receipts.{Accepts}
 use Rattle.verifier.specs.declared.reply_fault.ReplyFault.{ReplyFault}
 use Rattle.verifier.specs.Outcomes.{is_known}
 use Rattle.client_pass.specs.declared.take_fault.TakeFault.{TakeFault}
-use Rattle.client_pass.specs.declared.take_fault.TakeFault.TheVariants.{Again, NoMemory, Reply}
+use Rattle.client_pass.specs.declared.take_fault.TakeFault.TheVariants.{NoMemory, Reply}
 use Rattle.client_pass.specs.Answers.{IfReplyNoted, answer_by}
-use Rattle.client_pass.specs.ClientList.{IsAnswered, IsForEntry, IsForRead}
+use Rattle.client_pass.specs.ClientList.{IsForEntry, IsForRead}
 use Rattle.client_pass.specs.ClientPass.{ClientPass}
 use Rattle.coordinator.specs.State.{State}
 use Rattle.reply_lines.specs.Causes.{payload_of}
@@ -23,7 +23,7 @@ use Rattle.reply_taking.specs.Learning.{Learns}
 use Rattle.client_acts.specs.ClientActs.{ClientActs}
 use Rattle.client_acts.specs.Taking.{IsUnbegun}
 use Rattle.client_acts.specs.Taking.{Took as ClientTook}
-use Rattle.answer_lines.specs.Draws.{DrewEntry, DrewRead, IsOpen}
+use Rattle.answer_lines.specs.Draws.{DrewEntry, DrewRead}
 use Rattle.answer_lines.specs.Taken.{IsQuiet, Took, latest_line, newest_line, taken_line}
 use Rattle.answer_lines.specs.Giving.{Gave, count_by}
 
@@ -160,9 +160,3 @@ module _ {S L C : Type 0} (accepts : C → Accepts) (store_view : S → StoreVie
           printed = line ∙ ap (λ (told : Result ℕ ReplyFault). latest_line label row told) had;
         },
       )
-
-  -- an open draw has no reply yet
-  pub never_again : {A : Type 0} (place draw : ℕ) (view : List ℕ) (taken : Result A TakeFault) (P : ClientPass C → ClientPass C → Type 0) → IsOpen old.clients place draw
-      → ClientTook accepts store_view link_view old new before after place view taken P
-      → ((from to : ClientPass C) → P from to → taken ≡ Err Again → IsAnswered from.lines draw) → taken ≢ Err Again
-  never_again place draw view taken P unanswered took says again = unanswered took.from took.acts.stood (says took.from took.to took.says again)
