@@ -1,7 +1,16 @@
-//! What the lines of a script that are done at once do to the world in which it runs: definitions, and no code yet.
+//! The world in which a script runs: what its nonces and labels mean, and what each line that is done at once makes of it. No code
+//! runs a line yet.
 //!
-//! - `specs/World` is what a run has come to: a coordinator over a store that may lie, its clients, the ledgers that labels mean
-//!   (`specs/Labels`), and how many nonces were drawn (`specs/Nonce`).
-//! - `specs/Lines` says what each line makes of it, by what a client takes of an answer (`answer_lines`).
+//! - [`nonce`] gives the nonce of a number. Nonces are drawn in the order of their numbers, from 0 on.
+//! - [`handle_for`] gives the ledger that a label means.
+//!
+//! What a run has come to is `World` in `specs/World`: a coordinator over a store that may lie, its clients, the ledgers of labels and
+//! how many nonces were drawn. `specs/Lines` says what each line makes of it, by what a client takes of an answer (`answer_lines`).
 
 #![tactic(auto)]
+
+mod labels;
+mod nonces;
+
+pub use labels::handle_for;
+pub use nonces::nonce;

@@ -1,6 +1,5 @@
 -- The texts whose digests a run rests on before it begins.
-use Rattle.std.specs.Prelude.{ℕ, ◌+◌, List, [], ◌∷◌, ◌++◌, replicate, if◌then◌else◌}
-use Rattle.std.specs.Int.{to_be_bytes, w64}
+use Rattle.std.specs.Prelude.{ℕ, ◌+◌, List, [], ◌∷◌, ◌++◌, if◌then◌else◌}
 use Rattle.std.specs.List.{flat_map, list_any}
 use Rattle.std.specs.Option.{option_map_or}
 use Rattle.std.specs.Str.{bytes_eq}
@@ -8,11 +7,8 @@ use Rattle.chain_block.specs.Bytes.{genesis_bytes}
 use Rattle.fault_script.specs.Command.{Request, New, Append, Latest, At, Reconfigure, Command, Plain, Begin}
 use Rattle.fault_script.specs.Labels.{label_of}
 use Rattle.fault_script.specs.Within.{IsWithin}
+use Rattle.script_world.specs.Nonce.{nonce}
 use Rattle.world_run.specs.Seals.{all_ids}
-
--- the nonce of this number: the number in 16 bytes, big-endian
-abbrev pub nonce : ℕ → List ℕ
-nonce number = replicate 8 0 ++ to_be_bytes w64 number
 
 -- how many nonces are drawn
 abbrev pub draws_of_request : Request → ℕ

@@ -28,5 +28,6 @@ mod set_up;
 pub use mac_seals::MacSeals;
 pub use plain::plain_replies;
 pub use plain_laws::{plain_lines_get_plain_replies, plain_runs_begin};
+pub use script_world::nonce;
 pub use seals::Seals;
-pub use set_up::{nonce, set_up_texts};
+pub use set_up::set_up_texts;

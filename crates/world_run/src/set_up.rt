@@ -5,26 +5,18 @@ ghost use Rattle.fault_script.specs.Labels.{label_of, label_of_request};
 ghost use Rattle.fault_script.specs.Seen.{command_of, commands_of, request_of};
 ghost use Rattle.fault_script.specs.Within.{IsRequestWithin, IsWithin};
 ghost use Rattle.world_run.specs.Seals.{all_ids};
-ghost use Rattle.world_run.specs.SetUp.{AllWithin, draws_of, draws_of_request, first_entries, first_entry, first_entry_of_request, label_text, made_by, made_by_request, nonce, set_up_texts, text_of_label};
+ghost use Rattle.world_run.specs.SetUp.{AllWithin, draws_of, draws_of_request, first_entries, first_entry, first_entry_of_request, label_text, made_by, made_by_request, set_up_texts, text_of_label};
 
 use crate::mac_seals::IDS;
 use crate::seals::Seals;
 use chain_block::Entry;
 use fault_script::{Act, Line, Script};
-use nim_base::{NoMemory, Nonce, Text};
+use nim_base::{NoMemory, Text};
+use script_world::nonce;
 use std::alloc::Global;
 
 /// The kind of the text whose digest is the handle of a label that no line makes.
 const LABEL: u8 = 0x43;
-
-/// The nonce of this number: the number in 16 bytes, big-endian.
-pub fn nonce(number: u64) -> Nonce
-    ensures { result ≡ nonce number }
-{
-    let mut bytes = [0; 16];
-    bytes[8..].copy_from_slice(&number.to_be_bytes());
-    Nonce(bytes)
-}
 
 fn draws_of_act(act: &Act) -> u64
     ensures exact { result ≡ draws_of_request (request_of act.now) }

@@ -2,7 +2,8 @@ use Rattle.std.proofs.Common.{◌++◌, ◌∷◌, [], map, sym, ap, ◌∙◌}
 use Rattle.std.proofs.lemmas.List.{map_push}
 use Rattle.chain_block.specs.Bytes.{genesis_bytes}
 use Rattle.fault_script.specs.Seen.{request_of}
-use Rattle.world_run.specs.SetUp.{nonce, first_entry_of_request}
+use Rattle.script_world.specs.Nonce.{nonce}
+use Rattle.world_run.specs.SetUp.{first_entry_of_request}
 use Rattle.world_run.proofs.set_up.push_entry_of_act.Goals as goal
 
 pub returns-in_ok-push : goal.returns-in_ok-push
