@@ -1,5 +1,5 @@
 -- A client that was given an answer, and the line that says so.
-use Rattle.std.proofs.Common.{◌≡◌, ◌⊎◌, inl, inr, ℕ, zero, suc, ◌<◌, true, List, [], ◌∷◌, length, slice_get, Option, Some, None, Result, Ok, Err, IfOk, refl, sym, ap, subst, ◌∙◌, arith}
+use Rattle.std.proofs.Common.{◌≡◌, ◌⊎◌, inl, inr, Bool, ℕ, zero, suc, ◌<◌, true, false, List, [], ◌∷◌, length, slice_get, Option, Some, None, Result, Ok, Err, IfOk, refl, sym, ap, subst, ◌∙◌, arith}
 use Rattle.std.specs.Result.{result_err}
 use Rattle.chain_block.specs.declared.entry.Entry.{Entry}
 use Rattle.chain_block.specs.declared.entry.Entry.TheVariants as entries
@@ -13,18 +13,19 @@ use Rattle.verifier.specs.declared.reply_fault.ReplyFault.{ReplyFault}
 use Rattle.verifier.specs.Outcomes.{is_known}
 use Rattle.client_pass.specs.declared.take_fault.TakeFault.{TakeFault}
 use Rattle.client_pass.specs.declared.take_fault.TakeFault.TheVariants.{NoMemory, Reply}
+use Rattle.client_pass.specs.Act.{Act}
 use Rattle.client_pass.specs.Answers.{IfReplyNoted, answer_by}
 use Rattle.client_pass.specs.ClientList.{IsForEntry, IsForRead}
 use Rattle.client_pass.specs.ClientPass.{ClientPass}
 use Rattle.coordinator.specs.State.{State}
 use Rattle.reply_lines.specs.Causes.{payload_of}
 use Rattle.reply_lines.specs.Lines.{bad_reply_line}
-use Rattle.reply_taking.specs.Learning.{Learns}
+use Rattle.reply_taking.specs.Learning.{Learns, NotedAfterViews}
 use Rattle.client_acts.specs.ClientActs.{ClientActs}
 use Rattle.client_acts.specs.Taking.{IsUnbegun}
 use Rattle.client_acts.specs.Taking.{Took as ClientTook}
 use Rattle.answer_lines.specs.Draws.{DrewEntry, DrewRead}
-use Rattle.answer_lines.specs.Taken.{IsQuiet, Took, latest_line, newest_line, taken_line}
+use Rattle.answer_lines.specs.Taken.{IsQuiet, Sides, Took, latest_line, newest_line, taken_line}
 use Rattle.answer_lines.specs.Giving.{Gave, count_by}
 
 -- ---- an entry without its room
@@ -78,6 +79,10 @@ counted : (outcome : Result ℕ ReplyFault) → count_by outcome ≡ Err NoMemor
 counted (Ok count) is = absurd cc is
 counted (Err fault) is = absurd cc is
 
+count_by_noted : (taken : Result ℕ TakeFault) (told : Result ℕ ReplyFault) (P : Option ReplyFault → Type 0) → taken ≡ count_by told → IfReplyNoted taken P → P (result_err told)
+count_by_noted taken (Ok count) P is noted = subst (λ r. IfReplyNoted r P) is noted
+count_by_noted taken (Err fault) P is noted = subst (λ r. IfReplyNoted r P) is noted
+
 told_fault : (fault : ReplyFault) (outcome : Result ℕ ReplyFault) → Some fault ≡ result_err outcome → Err fault ≡ outcome
 told_fault fault (Ok count) is = absurd cc is
 told_fault fault (Err other) is =
@@ -121,42 +126,70 @@ module _ {S L C : Type 0} (accepts : C → Accepts) (store_view : S → StoreVie
   quiet taken from to view some (inl learns) known = learns.known known
   quiet taken from to view some (inr unbegun) known = absurd (some unbegun.0)
 
+  known_or_not : (b : Bool) {X : Type 0} → (b ≡ true → X) → (b ≡ false → X) → X
+  known_or_not true known unknown = known refl
+  known_or_not false known unknown = unknown refl
+
+  learned : {A : Type 0} (taken : Result A TakeFault) (from to : ClientPass C) (view : List ℕ)
+      → Learns accepts store_view link_view before after from to view ⊎ IsUnbegun old new before after taken → after.checker ≡ before.checker
+  learned taken from to view (inl learns) =
+      known_or_not (is_known from.chain.configs view) (λ known. ap (λ (s : State S L C). s.checker) (learns.known known).0) (λ unknown. (learns.unknown unknown).1.checker)
+  learned taken from to view (inr unbegun) = ap (λ (s : State S L C). s.checker) unbegun.2
+
+  -- whatever the client learned, the coordinator's checker is as it was
+  pub same_checker : {A : Type 0} (taken : Result A TakeFault) (place calls : ℕ) (view : List ℕ) (act : Option ReplyFault → Act) (P : ClientPass C → ClientPass C → Type 0)
+      → ClientTook accepts store_view link_view old new before after place calls view taken act P → after.checker ≡ before.checker
+  same_checker taken place calls view act P took = learned taken took.from took.to view took.learns
+
   -- the line of a reply that was checked
-  pub gave_line : {T E : Type 0} (line : Result T E) (bytes : T → List ℕ) (place : ℕ) (view : List ℕ) (taken : Result (Unit {0}) TakeFault) (P : ClientPass C → ClientPass C → Type 0)
-      (accepted wanted : List ℕ) (outcome : List (List Member) → Option ReplyFault) → accepted ≡ wanted
-      → ClientTook accepts store_view link_view old new before after place view taken P
+  pub gave_line : {T E : Type 0} (line : Result T E) (bytes : T → List ℕ) (place calls : ℕ) (view : List ℕ) (taken : Result (Unit {0}) TakeFault) (act named : Option ReplyFault → Act) (P : ClientPass C → ClientPass C → Type 0)
+      (accepted wanted : List ℕ) (outcome : List (List Member) → Option ReplyFault) → accepted ≡ wanted → act ≡ named
+      → ClientTook accepts store_view link_view old new before after place calls view taken act P
       → ((from to : ClientPass C) → slice_get old.clients place ≡ Some from → P from to → IfReplyNoted taken (λ fault. fault ≡ outcome to.chain.configs))
       → IfOk line (λ l. (fault : Option ReplyFault) × (taken ≡ answer_by fault) × (bytes l ≡ taken_line accepted fault))
-      → IfOk line (λ l. Gave old new place before after (λ sides. Took sides view (λ configs. taken_line wanted (outcome configs)) (bytes l)))
-  gave_line (Err fault) bytes place view taken P accepted wanted outcome same took says printed = tt
-  gave_line (Ok l) bytes place view taken P accepted wanted outcome same took says (fault, is, line) =
-      let had : fault ≡ outcome took.to.chain.configs = noted_by taken fault (λ fault. fault ≡ outcome took.to.chain.configs) is (says took.from took.to took.acts.stood took.says) in (
+      → IfOk line (λ l. Gave old new place before after (λ sides. Took sides view outcome named (taken_line wanted) (bytes l)))
+  gave_line (Err fault) bytes place calls view taken act named P accepted wanted outcome same is_act took says printed = tt
+  gave_line (Ok l) bytes place calls view taken act named P accepted wanted outcome same is_act took says (fault, is, line) =
+      let had : fault ≡ outcome took.to.chain.configs = noted_by taken fault (λ fault. fault ≡ outcome took.to.chain.configs) is (says took.from took.to took.acts.stood took.says) in
+      let noted : NotedAfterViews took.from took.to (act fault) = noted_by taken fault (λ fault. NotedAfterViews took.from took.to (act fault)) is took.noted in
+      let told : NotedAfterViews took.from took.to (named fault) = subst (λ (by : Option ReplyFault → Act). NotedAfterViews took.from took.to (by fault)) is_act noted in (
         took.from,
         took.to,
         took.acts,
         record {
           known = quiet taken took.from took.to view (λ none. answered fault (sym is ∙ none)) took.learns;
+          noted = subst (λ fault. NotedAfterViews took.from took.to (named fault)) had told;
           printed = line ∙ ap (λ (text : List ℕ). taken_line text fault) same ∙ ap (λ (fault : Option ReplyFault). taken_line wanted fault) had;
         },
       )
 
   -- the same for a latest read
-  pub gave_latest_line : {T E : Type 0} (line : Result T E) (bytes : T → List ℕ) (place : ℕ) (view : List ℕ) (taken : Result ℕ TakeFault) (P : ClientPass C → ClientPass C → Type 0)
+  pub gave_latest_line : {T E : Type 0} (line : Result T E) (bytes : T → List ℕ) (place calls : ℕ) (view : List ℕ) (taken : Result ℕ TakeFault) (act : Option ReplyFault → Act) (P : ClientPass C → ClientPass C → Type 0)
       (label : List ℕ) (row : Option Content) (outcome : List (List Member) → Result ℕ ReplyFault)
-      → ClientTook accepts store_view link_view old new before after place view taken P
+      → ClientTook accepts store_view link_view old new before after place calls view taken act P
       → ((from to : ClientPass C) → slice_get old.clients place ≡ Some from → P from to → IfReplyNoted taken (λ fault. fault ≡ result_err (outcome to.chain.configs)))
       → ((from to : ClientPass C) → slice_get old.clients place ≡ Some from → P from to → IfOk taken (λ count. outcome to.chain.configs ≡ Ok count))
       → IfOk line (λ l. (told : Result ℕ ReplyFault) × (taken ≡ count_by told) × (bytes l ≡ latest_line label row told))
-      → IfOk line (λ l. Gave old new place before after (λ sides. Took sides view (λ configs. latest_line label row (outcome configs)) (bytes l)))
-  gave_latest_line (Err fault) bytes place view taken P label row outcome took says counts printed = tt
-  gave_latest_line (Ok l) bytes place view taken P label row outcome took says counts (told, is, line) =
+      → IfOk line (λ l. Gave old new place before after (λ sides. Took sides view outcome (λ told. act (result_err told)) (latest_line label row) (bytes l)))
+  gave_latest_line (Err fault) bytes place calls view taken act P label row outcome took says counts printed = tt
+  gave_latest_line (Ok l) bytes place calls view taken act P label row outcome took says counts (told, is, line) =
       let had : told ≡ outcome took.to.chain.configs =
-      count_noted taken told (outcome took.to.chain.configs) is (says took.from took.to took.acts.stood took.says) (counts took.from took.to took.acts.stood took.says) in (
+      count_noted taken told (outcome took.to.chain.configs) is (says took.from took.to took.acts.stood took.says) (counts took.from took.to took.acts.stood took.says) in
+      let noted : NotedAfterViews took.from took.to (act (result_err told)) = count_by_noted taken told (λ fault. NotedAfterViews took.from took.to (act fault)) is took.noted in (
         took.from,
         took.to,
         took.acts,
         record {
           known = quiet taken took.from took.to view (λ none. counted told (sym is ∙ none)) took.learns;
+          noted = subst (λ (told : Result ℕ ReplyFault). NotedAfterViews took.from took.to (act (result_err told))) had noted;
           printed = line ∙ ap (λ (told : Result ℕ ReplyFault). latest_line label row told) had;
         },
       )
+
+  -- the draw that it was taken for
+  pub gave_drawn : {T E : Type 0} (line : Result T E) (place draw : ℕ) (Q : ℕ → ClientPass C → Type 0) (P : T → ℕ → Sides S L C → Type 0)
+      → ((from : ClientPass C) → slice_get old.clients place ≡ Some from → Q draw from)
+      → IfOk line (λ l. Gave old new place before after (λ sides. P l draw sides))
+      → IfOk line (λ l. Gave old new place before after (λ sides. (draw : ℕ) × Q draw sides.from × P l draw sides))
+  gave_drawn (Err fault) place draw Q P drew gave = tt
+  gave_drawn (Ok l) place draw Q P drew (from, to, acts, took) = (from, to, acts, (draw, drew from acts.stood, took))

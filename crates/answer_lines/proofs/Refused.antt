@@ -28,18 +28,18 @@ is_conflict (Reused id) standing is = absurd cc is
 is_conflict NoMemory standing is = absurd cc is
 
 module _ {S L C : Type 0} (sides : Sides S L C) (label text : List ℕ) where
-  pub printed : (cause : Cause) → IsQuiet sides → (cause ≡ NoMemory → ⊥) → text ≡ refusal_line label cause → Printed sides label cause text
-  printed (Conflict standing) quiet some line = (quiet, line)
-  printed (Gap handle missing) quiet some line = (quiet, line)
-  printed (NoQuorum need reasons) quiet some line = (quiet, line)
-  printed (ViewMoved from id statement sig) quiet some line = (quiet, line)
-  printed StoreFault quiet some line = (quiet, line)
-  printed (BadRow key bytes) quiet some line = (quiet, line)
-  printed (Contended member first later) quiet some line = (quiet, line)
-  printed (Full member) quiet some line = (quiet, line)
-  printed (TooFar needed) quiet some line = (quiet, line)
-  printed (Reused id) quiet some line = (quiet, line)
-  printed NoMemory quiet some line = some refl
+  pub printed : (cause : Cause) → IsQuiet sides → sides.to ≡ sides.from → (cause ≡ NoMemory → ⊥) → text ≡ refusal_line label cause → Printed sides label cause text
+  printed (Conflict standing) quiet same some line = (quiet, line, same)
+  printed (Gap handle missing) quiet same some line = (quiet, line, same)
+  printed (NoQuorum need reasons) quiet same some line = (quiet, line, same)
+  printed (ViewMoved from id statement sig) quiet same some line = (quiet, line, same)
+  printed StoreFault quiet same some line = (quiet, line, same)
+  printed (BadRow key bytes) quiet same some line = (quiet, line, same)
+  printed (Contended member first later) quiet same some line = (quiet, line, same)
+  printed (Full member) quiet same some line = (quiet, line, same)
+  printed (TooFar needed) quiet same some line = (quiet, line, same)
+  printed (Reused id) quiet same some line = (quiet, line, same)
+  printed NoMemory quiet same some line = some refl
 
   -- at a conflict the client looks
   pub printed_own : (accepts : Accepts) (entry : Entry) (cause : Cause) → conflict_in cause ≡ None
@@ -64,4 +64,4 @@ module _ {S L C : Type 0} (acts : ClientActs C) (place : ℕ) (from : ClientPass
   gave_refusal (Err fault) bytes P idle says line some = tt
   gave_refusal (Ok l) bytes P idle says line some =
       let sides : Sides S L C = record { from = from; to = from; before = state; after = state } in
-      (from, from, idle, says sides (bytes l) (printed sides label (bytes l) cause (refl, refl) some line))
+      (from, from, idle, says sides (bytes l) (printed sides label (bytes l) cause (refl, refl) refl some line))

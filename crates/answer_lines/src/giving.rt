@@ -63,6 +63,7 @@ pub fn give_own<S: Store, L: Link, C: Checker, K: RunName>(
     requires open { IsOpen acts.old.clients client draw }
     ensures took { IfOk result (λ line. Gave acts.old acts.new client coordinator.old coordinator.new (λ sides. TookOwn K.accepts sides label.now (bare entry.now) (stood answer) line.bytes)) }
     ensures stays { StaysOn acts.old acts.new }
+    ensures checker { coordinator.new.checker ≡ coordinator.old.checker }
 {
     clients_stay_on::<C>();
     match answer {
@@ -115,6 +116,7 @@ fn give_own_refusal<S: Store, L: Link, C: Checker, K: RunName>(
     requires client { client < length acts.old.clients }
     ensures took { IfOk result (λ line. Gave acts.old acts.new client coordinator.old coordinator.new (λ sides. TookOwn K.accepts sides label.now (bare entry.now) (Refused (cause_of refusal.now)) line.bytes)) }
     ensures stays { StaysOn acts.old acts.new }
+    ensures checker { coordinator.new.checker ≡ coordinator.old.checker }
 {
     clients_stay_on::<C>();
     match conflict_in(refusal) {
@@ -143,6 +145,7 @@ pub fn give_at<S: Store, L: Link, C: Checker, K: RunName>(
     requires client { client < length acts.old.clients }
     ensures took { IfOk result (λ line. Gave acts.old acts.new client coordinator.old coordinator.new (λ sides. TookAt K.accepts sides label.now handle.now height (stood answer) line.bytes)) }
     ensures stays { StaysOn acts.old acts.new }
+    ensures checker { coordinator.new.checker ≡ coordinator.old.checker }
 {
     clients_stay_on::<C>();
     match answer {
@@ -197,6 +200,7 @@ pub fn give_latest<S: Store, L: Link, C: Checker, K: RunName>(
     requires open { IsOpen acts.old.clients client draw }
     ensures took { IfOk result (λ line. Gave acts.old acts.new client coordinator.old coordinator.new (λ sides. TookLatest K.accepts sides label.now handle.now nonce.now (replied answer) line.bytes)) }
     ensures stays { StaysOn acts.old acts.new }
+    ensures checker { coordinator.new.checker ≡ coordinator.old.checker }
 {
     clients_stay_on::<C>();
     match answer {

@@ -86,6 +86,11 @@ module _ {C : Type 0} where
   same_seen first clients turns room old place from to view at same rooms =
       ap (λ (all : List (Client C)). seen first all room) (with_same clients place from to at same) ∙ ap (λ (some : List Turn). seen first clients some) rooms ∙ view
 
+  pub pushed_turn : (first : ViewChain) (clients : List (Client C)) (turns room pushed : List Turn) (old : ClientActs C) (turn : Turn)
+      → seen first clients turns ≡ old → room ≡ turns → pushed ≡ room ++ turn ∷ [] → pushed ≡ old.turns ++ turn ∷ []
+  pushed_turn first clients turns room pushed old turn view rooms push =
+      push ∙ ap (λ (some : List Turn). some ++ turn ∷ []) rooms ∙ ap (λ (old : ClientActs C). old.turns ++ turn ∷ []) view
+
   module _ (accepts : C → Accepts) (first : ViewChain) (checks : Accepts) where
     pub noted_same : (clients : List (Client C)) (turns room : List Turn) (place : ℕ) (from to : ClientPass C)
         → AreNoted accepts first checks (passes clients) turns → Some from ≡ pass_at clients place → to ≡ from → room ≡ turns

@@ -4,7 +4,7 @@ use Rattle.std.proofs.lemmas.Bool.Decides.{eqb_tells}
 use Rattle.std.proofs.Math.ListN.{length-set}
 use Rattle.client_pass.specs.Act.{Line}
 use Rattle.client_pass.specs.ClientPass.{ClientPass}
-use Rattle.reply_taking.specs.Learning.{Grows}
+use Rattle.reply_taking.specs.Learning.{Grows, TakesViews}
 use Rattle.client_acts.specs.ClientActs.{ClientActs, Acts, StaysOn}
 use Rattle.client_acts.proofs.Placing.{get_set, get_other}
 
@@ -16,6 +16,10 @@ grows_same pass = record {
   more = [];
   lines = sym (append-nil pass.lines);
 }
+
+pub views_same : {C : Type 0} (pass : ClientPass C) → TakesViews pass pass
+unfolding grows_same
+views_same pass = record { grows = grows_same pass; views = tt }
 
 grows_again : {C : Type 0} (old middle new : ClientPass C) → Grows old middle → Grows middle new → Grows old new
 grows_again old middle new one other = record {

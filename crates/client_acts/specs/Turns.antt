@@ -2,6 +2,10 @@
 use Rattle.std.specs.Prelude.{ℕ, ◌+◌, ◌==◌, if◌then◌else◌, List, [], ◌∷◌}
 use Rattle.client_acts.specs.declared.turn.Turn.{Turn}
 
+-- the client at this place, how many calls came before, and how many lines it wrote
+abbrev pub turn_of : ℕ → ℕ → ℕ → Turn
+turn_of client calls lines = record { client = client; calls = calls; lines = lines }
+
 -- how many lines the client at this place wrote in these turns
 abbrev pub lines_by : ℕ → List Turn → ℕ
 lines_by place [] = 0

@@ -9,10 +9,11 @@ ghost use Rattle.client_pass.specs.declared.take_fault.TakeFault.TheVariants.{Ag
 ghost use Rattle.client_pass.specs.Answers.{IfReplyNoted};
 ghost use Rattle.client_pass.specs.ClientList.{IsAnswered, IsClientList, IsForEntry, IsForRead};
 ghost use Rattle.view_ledger.specs.Views.{newest_tail};
-ghost use Rattle.client_pass.specs.ClientPass.{ClientPass as Client};
-ghost use Rattle.client_acts.specs.ClientActs.{Acts, line_count};
+ghost use Rattle.client_pass.specs.Act.{Append, At, Draw, Latest, Look};
+ghost use Rattle.client_pass.specs.ClientPass.{ClientPass as Client, Notes};
+ghost use Rattle.client_acts.specs.ClientActs.{Acts, Each, IsOf, line_count};
 ghost use Rattle.client_acts.specs.Taking.{Took};
-ghost use Rattle.client_acts.specs.Turns.{lines_by};
+ghost use Rattle.client_acts.specs.Turns.{lines_by, turn_of};
 
 use crate::turn::Turn;
 use chain_block::Entry;
@@ -83,6 +84,14 @@ impl<'w, C: Checker, K: RunName> ClientActs<'w, C, K> {
         &self.first
     }
 
+    /// How many clients there are.
+    pub fn count(&self) -> usize
+        ensures count { result ≡ length self.now.clients }
+        ensures each { Each (IsOf C.accepts self.now.first K.accepts) self.now.clients }
+    {
+        self.clients.count()
+    }
+
     /// The place of the client with this name.
     pub fn place(&self, name: &[u8]) -> Option<usize>
         ensures some { IfSome result (λ place. slice_get self.now.names place ≡ Some name.now) }
@@ -99,8 +108,10 @@ impl<'w, C: Checker, K: RunName> ClientActs<'w, C, K> {
         requires new { (place : ℕ) → slice_get self.old.names place ≢ Some name.now }
         ensures place { IfOk result (λ place. place ≡ length self.old.clients) }
         ensures names { OnOk result (self.new.names ≡ self.old.names ++ name.now ∷ []) }
-        ensures client { OnOk result ((client : Client C) × (client.checker ≡ checker) × (client.chain ≡ self.old.first) × (self.new.clients ≡ self.old.clients ++ client ∷ [])) }
+        ensures client { OnOk result ((client : Client C) × (client.checker ≡ checker) × (client.chain ≡ self.old.first) × (self.new.clients ≡ self.old.clients ++ client ∷ []) × (client.lines ≡ [])) }
         ensures first { self.new.first ≡ self.old.first }
+        ensures turns { self.new.turns ≡ self.old.turns }
+        ensures no_memory { OnErr result (self.new ≡ self.old) }
     {
         let place = self.clients.count();
         if place > u32::MAX as usize {
@@ -130,7 +141,8 @@ impl<'w, C: Checker, K: RunName> ClientActs<'w, C, K> {
         requires place { place < length self.old.clients }
         requires own_nonce { IfSome (option_copied intent) (λ entry. nonce_of entry ≡ nonce.now) }
         requires within { IfSome (option_copied intent) IsWithinLimits }
-        ensures acts { OnOk result ((from : Client C) × (to : Client C) × Acts self.old self.new place from to × (to.chain ≡ from.chain)) }
+        ensures acts { OnOk result ((from : Client C) × (to : Client C) × Acts self.old self.new place from to × (to.chain ≡ from.chain) × Notes from to (Draw nonce.now (option_map bare (option_copied intent.entry)))) }
+        ensures turn { OnOk result (self.new.turns ≡ self.old.turns ++ turn_of place calls 1 ∷ []) }
         ensures for_entry { IfOk result (λ number. IfSome (option_copied intent.entry) (λ entry. (pass : Client C) × (slice_get self.new.clients place ≡ Some pass) × IsForEntry pass.lines number (bare entry) × (IsAnswered pass.lines number → ⊥))) }
         ensures for_read { IfOk result (λ number. IfNone (option_copied intent.entry) ((pass : Client C) × (slice_get self.new.clients place ≡ Some pass) × IsForRead pass.lines number nonce.now × (IsAnswered pass.lines number → ⊥))) }
         ensures no_memory { OnErr result (self.new ≡ self.old) }
@@ -180,7 +192,7 @@ impl<'w, C: Checker, K: RunName> ClientActs<'w, C, K> {
         reply: &Standing,
     ) -> Result<(), TakeFault>
         requires own_draw { (pass : Client C) × (slice_get self.old.clients place ≡ Some pass) × ((entry : Entry) × IsForEntry pass.lines draw entry) }
-        ensures { Took C.accepts S.view L.view self.old self.new coordinator.old coordinator.new place (view_of reply.now.receipt.statement) result (λ from to.
+        ensures { Took C.accepts S.view L.view self.old self.new coordinator.old coordinator.new place calls (view_of reply.now.receipt.statement) result (Append draw reply.now) (λ from to.
             ((entry : Entry) → IsForEntry from.lines draw entry → IfReplyNoted result (λ fault. fault ≡ append_outcome K.accepts to.chain.configs entry reply.now))
             × (result ≡ Err Again → IsAnswered from.lines draw)) }
     {
@@ -208,7 +220,7 @@ impl<'w, C: Checker, K: RunName> ClientActs<'w, C, K> {
         reply: &LatestReply,
     ) -> Result<u64, TakeFault>
         requires own_draw { (pass : Client C) × (slice_get self.old.clients place ≡ Some pass) × ((nonce : List ℕ) × IsForRead pass.lines draw nonce) }
-        ensures { Took C.accepts S.view L.view self.old self.new coordinator.old coordinator.new place (view_of reply.now.receipt.statement) result (λ from to.
+        ensures { Took C.accepts S.view L.view self.old self.new coordinator.old coordinator.new place calls (view_of reply.now.receipt.statement) result (Latest draw handle.now reply.now) (λ from to.
             ((nonce : List ℕ) → IsForRead from.lines draw nonce → IfReplyNoted result (λ fault. fault ≡ result_err (latest_outcome K.accepts to.chain.configs handle.now nonce reply.now)))
             × ((nonce : List ℕ) → IsForRead from.lines draw nonce → IfOk result (λ count. latest_outcome K.accepts to.chain.configs handle.now nonce reply.now ≡ Ok count))
             × (result ≡ Err Again → IsAnswered from.lines draw)) }
@@ -245,7 +257,7 @@ impl<'w, C: Checker, K: RunName> ClientActs<'w, C, K> {
         reply: &Standing,
     ) -> Result<(), TakeFault>
         requires place { place < length self.old.clients }
-        ensures { Took C.accepts S.view L.view self.old self.new coordinator.old coordinator.new place (view_of reply.now.receipt.statement) result (λ from to.
+        ensures { Took C.accepts S.view L.view self.old self.new coordinator.old coordinator.new place calls (view_of reply.now.receipt.statement) result (At handle.now height reply.now) (λ from to.
             IfReplyNoted result (λ fault. fault ≡ at_outcome K.accepts to.chain.configs handle.now height reply.now)
             × (result ≢ Err Again)) }
     {
@@ -281,7 +293,7 @@ impl<'w, C: Checker, K: RunName> ClientActs<'w, C, K> {
         reply: &Standing,
     ) -> Result<(), TakeFault>
         requires place { place < length self.old.clients }
-        ensures { Took C.accepts S.view L.view self.old self.new coordinator.old coordinator.new place (view_of reply.now.receipt.statement) result (λ from to.
+        ensures { Took C.accepts S.view L.view self.old self.new coordinator.old coordinator.new place calls (view_of reply.now.receipt.statement) result (Look handle.now height reply.now) (λ from to.
             IfReplyNoted result (λ fault. fault ≡ at_outcome K.accepts to.chain.configs handle.now height reply.now)
             × (result ≢ Err Again)) }
     {

@@ -1,13 +1,17 @@
 -- Clients that do more, one thing after the other.
 use Rattle.std.proofs.Common.{◌≡◌, List, [], ◌∷◌, ◌++◌, Option, Some, None, Result, Ok, Err, refl, sym, ap, subst, ◌∙◌, append_assoc, append-nil}
+use Rattle.std.specs.List.{AllByRecursion}
+use Rattle.port.specs.View.{ViewRow}
+use Rattle.view_ledger.specs.declared.view_fault.ViewFault.{ViewFault}
 use Rattle.verifier.specs.declared.reply_fault.ReplyFault.{ReplyFault}
 use Rattle.client_pass.specs.declared.take_fault.TakeFault.{TakeFault}
 use Rattle.client_pass.specs.declared.take_fault.TakeFault.TheVariants.{Reply, View, Again, NoMemory}
 use Rattle.client_pass.specs.Act.{Act, Line, line}
-use Rattle.client_pass.specs.Answers.{IfReplyNoted, IfNotNoted}
+use Rattle.client_pass.specs.Act as acts
+use Rattle.client_pass.specs.Answers.{IfReplyNoted, IfNotNoted, IfViewNoted}
 use Rattle.client_pass.specs.ClientList.{chain_after}
 use Rattle.client_pass.specs.ClientPass.{ClientPass, Notes}
-use Rattle.reply_taking.specs.Learning.{Grows}
+use Rattle.reply_taking.specs.Learning.{AreViews, Grows, TakesViews}
 
 pub grows_same : {C : Type 0} (pass : ClientPass C) → Grows pass pass
 grows_same pass = record {
@@ -41,6 +45,47 @@ same_grows old new same = subst (λ pass. Grows old pass) (sym same) (grows_same
 
 noted_chain : {C : Type 0} (old new : ClientPass C) (act : Act) → chain_after old.chain act ≡ old.chain → Notes old new act → new.chain ≡ old.chain
 noted_chain {C} old new act stays notes = ap (λ (pass : ClientPass C). pass.chain) notes.noted ∙ stays
+
+-- ---- views that are taken
+
+all_append : {X : Type 0} (P : X → Type 0) (xs ys : List X) → AllByRecursion P xs → AllByRecursion P ys → AllByRecursion P (xs ++ ys)
+all_append P [] ys one other = other
+all_append P (x ∷ xs) ys one other = (one.0, all_append P xs ys one.1 other)
+
+views_append : (some more : List Line) → AreViews some → AreViews more → AreViews (some ++ more)
+views_append some more one other = all_append (λ (line : Line). (row : ViewRow) × (fault : Option ViewFault) × (line.act ≡ acts.View row fault)) some more one other
+
+pub views_same : {C : Type 0} (pass : ClientPass C) → TakesViews pass pass
+unfolding grows_same
+views_same pass = record { grows = grows_same pass; views = tt }
+
+pub views_again : {C : Type 0} (old middle new : ClientPass C) → TakesViews old middle → TakesViews middle new → TakesViews old new
+unfolding grows_again
+views_again old middle new one other = record {
+  grows = grows_again old middle new one.grows other.grows;
+  views = views_append one.grows.more other.grows.more one.views other.views;
+}
+
+same_views : {C : Type 0} (old new : ClientPass C) → new ≡ old → TakesViews old new
+same_views old new same = subst (λ pass. TakesViews old pass) (sym same) (views_same old)
+
+one_view : {C : Type 0} (old new : ClientPass C) (row : ViewRow) (fault : Option ViewFault) → Notes old new (acts.View row fault) → TakesViews old new
+unfolding notes_grow
+one_view old new row fault notes = record {
+  grows = notes_grow old new (acts.View row fault) notes;
+  views = ((row, fault, refl), tt);
+}
+
+-- a check of a view notes one line, or none
+pub view_taken : {A C : Type 0} (old new : ClientPass C) (row : ViewRow) (result : Result A TakeFault)
+    → IfViewNoted result (λ fault. Notes old new (acts.View row fault)) → IfNotNoted result (new ≡ old) → TakesViews old new
+view_taken old new row (Ok value) notes same = one_view old new row None notes
+view_taken old new row (Err (Reply fault)) notes same = absurd notes
+view_taken old new row (Err (View fault)) notes same = one_view old new row (Some fault) notes
+view_taken old new row (Err Again) notes same = absurd notes
+view_taken old new row (Err NoMemory) notes same = same_views old new same
+
+-- ---- replies
 
 -- a check of a reply notes one line, or none
 module _ {A C : Type 0} (old new : ClientPass C) (act : Option ReplyFault → Act) where

@@ -1,6 +1,6 @@
 ghost use Rattle.std.specs.Prelude.{ℕ};
 ghost use Rattle.client_pass.specs.ClientList.{IsAnswered};
-ghost use Rattle.reply_taking.specs.Learning.{Grows, Learns};
+ghost use Rattle.reply_taking.specs.Learning.{Grows, Learns, TakesViews};
 
 use client_pass::{ClientPass, TakeFault};
 use coordinator::Coordinator;
@@ -22,6 +22,7 @@ pub fn learn<S: Store, L: Link, C: Checker, K: ClockName>(
     view: &Digest,
 ) -> Result<(), NoMemory>
     ensures grows { Grows pass.old pass.new }
+    ensures views { TakesViews pass.old pass.new }
     ensures learns { Learns C.accepts S.view L.view coordinator.old coordinator.new pass.old pass.new view.now }
     ensures open { (draw : ℕ) → IsAnswered pass.new.lines draw → IsAnswered pass.old.lines draw }
 {
@@ -45,6 +46,7 @@ fn take_views<C: Checker, K: ClockName>(
     rows: &[ViewRow],
 ) -> Result<(), NoMemory>
     ensures grows { Grows pass.old pass.new }
+    ensures views { TakesViews pass.old pass.new }
     ensures open { (draw : ℕ) → IsAnswered pass.new.lines draw → IsAnswered pass.old.lines draw }
 {
     for row in rows {
@@ -53,6 +55,7 @@ fn take_views<C: Checker, K: ClockName>(
     Ok(())
 }
 
+#[tactic(auto, using(crate::proofs::Growing::views_same))]
 fn take_view<C: Checker, K: ClockName>(
     alloc: Global,
     clock: &Clock<K>,
@@ -60,6 +63,7 @@ fn take_view<C: Checker, K: ClockName>(
     row: &ViewRow,
 ) -> Result<(), NoMemory>
     ensures grows { Grows pass.old pass.new }
+    ensures views { TakesViews pass.old pass.new }
     ensures open { (draw : ℕ) → IsAnswered pass.new.lines draw → IsAnswered pass.old.lines draw }
 {
     if pass.left() == 0 {

@@ -4,9 +4,10 @@ ghost use Rattle.chain_block.specs.declared.entry.Entry.{Entry};
 ghost use Rattle.statement.specs.Statement.{view_of};
 ghost use Rattle.verifier.specs.Outcomes.{append_outcome, at_outcome, is_known, latest_outcome};
 ghost use Rattle.client_pass.specs.declared.take_fault.TakeFault.TheVariants.{Again};
-ghost use Rattle.client_pass.specs.Answers.{IfReplyNoted};
+ghost use Rattle.client_pass.specs.Act.{Append, At, Latest, Look};
+ghost use Rattle.client_pass.specs.Answers.{IfNotNoted, IfReplyNoted};
 ghost use Rattle.client_pass.specs.ClientList.{IsAnswered, IsForEntry, IsForRead};
-ghost use Rattle.reply_taking.specs.Learning.{Grows, Learns};
+ghost use Rattle.reply_taking.specs.Learning.{Grows, Learns, NotedAfterViews, TakesViews};
 
 use crate::learning::learn;
 use client_pass::{ClientPass, TakeFault, draws_stay};
@@ -29,6 +30,8 @@ pub fn take_own<S: Store, L: Link, C: Checker, K: ClockName>(
     requires own_draw { (entry : Entry) × IsForEntry pass.old.lines draw entry }
     ensures grows { Grows pass.old pass.new }
     ensures learns { Learns C.accepts S.view L.view coordinator.old coordinator.new pass.old pass.new (view_of reply.now.receipt.statement) }
+    ensures noted { IfReplyNoted result (λ fault. NotedAfterViews pass.old pass.new (Append draw reply.now fault)) }
+    ensures unnoted { IfNotNoted result (TakesViews pass.old pass.new) }
     ensures outcome { (entry : Entry) → IsForEntry pass.old.lines draw entry
         → IfReplyNoted result (λ fault. fault ≡ append_outcome (C.accepts pass.old.checker) pass.new.chain.configs entry reply.now) }
     ensures again { result ≡ Err Again → IsAnswered pass.old.lines draw }
@@ -60,6 +63,8 @@ pub fn take_latest<S: Store, L: Link, C: Checker, K: ClockName>(
     requires own_draw { (nonce : List ℕ) × IsForRead pass.old.lines draw nonce }
     ensures grows { Grows pass.old pass.new }
     ensures learns { Learns C.accepts S.view L.view coordinator.old coordinator.new pass.old pass.new (view_of reply.now.receipt.statement) }
+    ensures noted { IfReplyNoted result (λ fault. NotedAfterViews pass.old pass.new (Latest draw handle.now reply.now fault)) }
+    ensures unnoted { IfNotNoted result (TakesViews pass.old pass.new) }
     ensures outcome { (nonce : List ℕ) → IsForRead pass.old.lines draw nonce
         → IfReplyNoted result (λ fault. fault ≡ result_err (latest_outcome (C.accepts pass.old.checker) pass.new.chain.configs handle.now nonce reply.now)) }
     ensures count { (nonce : List ℕ) → IsForRead pass.old.lines draw nonce
@@ -92,6 +97,8 @@ pub fn take_at<S: Store, L: Link, C: Checker, K: ClockName>(
 ) -> Result<(), TakeFault>
     ensures grows { Grows pass.old pass.new }
     ensures learns { Learns C.accepts S.view L.view coordinator.old coordinator.new pass.old pass.new (view_of reply.now.receipt.statement) }
+    ensures noted { IfReplyNoted result (λ fault. NotedAfterViews pass.old pass.new (At handle.now height reply.now fault)) }
+    ensures unnoted { IfNotNoted result (TakesViews pass.old pass.new) }
     ensures outcome { IfReplyNoted result (λ fault. fault ≡ at_outcome (C.accepts pass.old.checker) pass.new.chain.configs handle.now height reply.now) }
     ensures never_again { result ≢ Err Again }
 {
@@ -120,6 +127,8 @@ pub fn look<S: Store, L: Link, C: Checker, K: ClockName>(
 ) -> Result<(), TakeFault>
     ensures grows { Grows pass.old pass.new }
     ensures learns { Learns C.accepts S.view L.view coordinator.old coordinator.new pass.old pass.new (view_of reply.now.receipt.statement) }
+    ensures noted { IfReplyNoted result (λ fault. NotedAfterViews pass.old pass.new (Look handle.now height reply.now fault)) }
+    ensures unnoted { IfNotNoted result (TakesViews pass.old pass.new) }
     ensures outcome { IfReplyNoted result (λ fault. fault ≡ at_outcome (C.accepts pass.old.checker) pass.new.chain.configs handle.now height reply.now) }
     ensures never_again { result ≢ Err Again }
 {

@@ -6,6 +6,7 @@ use Rattle.client_pass.specs.Act.{Line, Latest}
 use Rattle.client_pass.specs.Answers.{IfReplyNoted}
 use Rattle.client_pass.specs.ClientList.{IsForRead}
 use Rattle.reply_taking.proofs.Growing.{grows_again, reply_grows, reply_keeps_chain}
+use Rattle.reply_taking.proofs.Noting.{noted_after, unnoted_after}
 use Rattle.reply_taking.proofs.taking.take_latest.Goals as goal
 
 pub take_latest-requires-clause-own_draw : goal.take_latest-requires-clause-own_draw
@@ -36,3 +37,11 @@ returns-clause-count g c = λ nonce is_for.
     let chain = reply_keeps_chain c.learn.new.pass c.take_latest.new.self (Latest c.args.draw c.args.handle.now c.args.reply.now) c.take_latest.result (λ fault. refl) c.take_latest.ensures.noted c.take_latest.ensures.same in
     let by_chain = subst (λ (chain : ViewChain). IfOk c.take_latest.result (λ count. latest_outcome (g.C.Checker.accepts c.learn.new.pass.checker) chain.configs c.args.handle.now nonce c.args.reply.now ≡ Ok count)) (sym chain) said in
     subst (λ checker. IfOk c.take_latest.result (λ count. latest_outcome (g.C.Checker.accepts checker) c.take_latest.new.self.chain.configs c.args.handle.now nonce c.args.reply.now ≡ Ok count)) grows.checker by_chain
+
+pub returns-clause-noted : goal.returns-clause-noted
+returns-clause-noted g c =
+    noted_after c.args.pass.now c.learn.new.pass c.take_latest.new.self (Latest c.args.draw c.args.handle.now c.args.reply.now) c.learn.ensures.views c.take_latest.result c.take_latest.ensures.noted
+
+pub returns-clause-unnoted : goal.returns-clause-unnoted
+returns-clause-unnoted g c =
+    unnoted_after c.args.pass.now c.learn.new.pass c.take_latest.new.self (Latest c.args.draw c.args.handle.now c.args.reply.now) c.learn.ensures.views c.take_latest.result c.take_latest.ensures.same

@@ -2,7 +2,7 @@ use Rattle.std.proofs.Common.{◌≡◌, ◌∙◌, List, ap, subst, sym}
 use Rattle.client_pass.specs.ClientPass.{ClientPass}
 use Rattle.run_clients.specs.Clients.{Client}
 use Rattle.client_acts.specs.ClientActs.{AreNoted, ClientActs}
-use Rattle.client_acts.proofs.Acting.{passes}
+use Rattle.client_acts.proofs.Acting.{on_err, passes, seen}
 use Rattle.client_acts.proofs.Adding.{added_noted, added_seen, new_name}
 use Rattle.client_acts.proofs.client_acts.ClientActs.add.Goals as goal
 
@@ -32,4 +32,10 @@ returns-clause-client g c =
       ap (λ (pass : ClientPass g.row.C.Denot). pass.checker) c.new-pass.ensures ∙ c.new.ensures.checker,
       ap (λ (pass : ClientPass g.row.C.Denot). pass.chain) c.new-pass.ensures ∙ c.new.ensures.chain ∙ c.in_ok-first.ensures ∙ first,
       added_seen c.self.inside.first c.self.inside.clients c.add.new.self c.self.inside.turns.items c.args.self.now c.args.name.now pass c.self.view_is c.in_ok-add.ensures.added,
+      ap (λ (pass : ClientPass g.row.C.Denot). pass.lines) c.new-pass.ensures,
     )
+
+pub returns-in_err-add-clause-no_memory : goal.returns-in_err-add-clause-no_memory
+returns-in_err-add-clause-no_memory g c =
+    on_err c.from_residual-in_err-add.result
+    (ap (λ (clients : List (Client g.row.C.Denot)). seen c.self.inside.first clients c.self.inside.turns.items) c.in_err-add.ensures.no_memory ∙ c.self.view_is)

@@ -1,7 +1,8 @@
 use Rattle.std.proofs.Common.{option_copied, option_map}
 use Rattle.chain_block.specs.Entry.{bare}
 use Rattle.client_pass.specs.Act.{Draw}
-use Rattle.client_acts.proofs.Acting.{acted, draws_keep_chain, drawn_for, drawn_read, noted_more, noted_same, notes_grow, notes_one, on_err, same_seen}
+use Rattle.client_acts.specs.Turns.{turn_of}
+use Rattle.client_acts.proofs.Acting.{acted, draws_keep_chain, drawn_for, drawn_read, noted_more, noted_same, notes_grow, notes_one, on_err, pushed_turn, same_seen}
 use Rattle.client_acts.proofs.client_acts.ClientActs.draw.Goals as goal
 
 pub invariant_of-self-in_err-number : goal.invariant_of-self-in_err-number
@@ -35,6 +36,7 @@ returns-clause-acts g c =
           c.self.view_is c.pass_mut-pass.ensures.value
           (notes_grow c.pass_mut-pass.result.now c.draw.new.self (Draw c.args.nonce.now intent) noted),
       draws_keep_chain c.pass_mut-pass.result.now c.draw.new.self c.args.nonce.now intent noted,
+      noted,
     )
 
 pub returns-clause-for_entry : goal.returns-clause-for_entry
@@ -46,3 +48,8 @@ pub returns-clause-for_read : goal.returns-clause-for_read
 returns-clause-for_read g c =
     drawn_read c.self.inside.clients c.args.place c.pass_mut-pass.result.now c.draw.new.self (option_copied c.args.intent) c.in_ok-number.number c.args.nonce.now
     c.pass_mut-pass.ensures.value c.in_ok-number.ensures.for_read c.in_ok-number.ensures.open
+
+pub returns-clause-turn : goal.returns-clause-turn
+returns-clause-turn g c =
+    pushed_turn c.self.inside.first c.self.inside.clients c.self.inside.turns.items c.reserve.new.self.items c.push_reserved.new.self.items c.args.self.now (turn_of c.args.place c.args.calls 1)
+    c.self.view_is c.reserve.ensures.items c.push_reserved.ensures.items

@@ -6,6 +6,7 @@ use Rattle.view_ledger.specs.Receipts.{Accepts}
 use Rattle.verifier.specs.Outcomes.{append_outcome}
 use Rattle.client_pass.specs.declared.take_fault.TakeFault.{TakeFault}
 use Rattle.client_pass.specs.declared.take_fault.TakeFault.TheVariants.{NoMemory}
+use Rattle.client_pass.specs.Act.{Append}
 use Rattle.client_pass.specs.Answers.{IfReplyNoted}
 use Rattle.client_pass.specs.ClientList.{IsForEntry}
 use Rattle.client_pass.specs.ClientPass.{ClientPass}
@@ -18,8 +19,8 @@ returns-in_err-reserve g c =
     let p = err_from_is_err_and c.from_residual.result c.from_residual.ensures.1 in
     let gives : p.0 ≡ NoMemory = p.2 in
     let none : c.from_residual.result ≡ Err NoMemory = p.1 ∙ ap (λ (fault : TakeFault). Err fault) gives in
-    unbegun g.C.Checker.accepts g.S.Store.view g.L.Link.view c.self.inside.first c.self.inside.clients c.self.inside.turns.items c.reserve.new.self.items c.args.self.now c.args.coordinator.now c.args.place
-    (view_of c.args.reply.now.receipt.statement) c.from_residual.result _ c.requires.own_draw.0 c.self.view_is c.reserve.ensures.items c.requires.own_draw.1 none
+    unbegun g.C.Checker.accepts g.S.Store.view g.L.Link.view c.self.inside.first c.self.inside.clients c.self.inside.turns.items c.reserve.new.self.items c.args.self.now c.args.coordinator.now c.args.place c.args.calls
+    (view_of c.args.reply.now.receipt.statement) c.from_residual.result (Append c.args.draw c.args.reply.now) _ c.requires.own_draw.0 c.self.view_is c.reserve.ensures.items c.requires.own_draw.1 none
     (λ entry is_for. none_noted c.from_residual.result _ none, λ again. absurd (not_again c.from_residual.result none again))
 
 pub pass_mut-pass-requires : goal.pass_mut-pass-requires
@@ -46,9 +47,10 @@ returns g c =
     let from = c.pass_mut-pass.result.now in
     let to = c.take_own-taken.new.pass in
     let checked = checked_by g.C.Checker.accepts c.self.inside.first g.K.RunName.accepts c.self.inside.clients c.args.place from c.self.invariant.0 c.pass_mut-pass.ensures.value in
-    took g.C.Checker.accepts g.S.Store.view g.L.Link.view c.self.inside.first c.self.inside.clients c.self.inside.turns.items c.push_reserved.new.self.items c.args.self.now c.args.coordinator.now
-    c.take_own-taken.new.coordinator c.args.place (view_of c.args.reply.now.receipt.statement) c.take_own-taken.result _ from to
-    c.self.view_is c.pass_mut-pass.ensures.value c.take_own-taken.ensures.grows c.take_own-taken.ensures.learns (
+    took g.C.Checker.accepts g.S.Store.view g.L.Link.view c.self.inside.first c.self.inside.clients c.self.inside.turns.items c.reserve.new.self.items c.push_reserved.new.self.items c.args.self.now c.args.coordinator.now
+    c.take_own-taken.new.coordinator c.args.place c.args.calls (view_of c.args.reply.now.receipt.statement) c.take_own-taken.result (Append c.args.draw c.args.reply.now) _ from to c.lines-before.result.now c.lines.result.now
+    c.self.view_is c.pass_mut-pass.ensures.value c.reserve.ensures.items c.lines-before.ensures.lines c.lines.ensures.lines c.push_reserved.ensures.items
+    c.take_own-taken.ensures.grows c.take_own-taken.ensures.learns c.take_own-taken.ensures.noted c.take_own-taken.ensures.unnoted (
       λ entry is_for. subst (λ (by : Accepts). IfReplyNoted c.take_own-taken.result (λ fault. fault ≡ append_outcome by to.chain.configs entry c.args.reply.now)) checked (c.take_own-taken.ensures.outcome entry is_for),
       c.take_own-taken.ensures.again,
     )
