@@ -1,0 +1,4 @@
+use Rattle.script_operations.proofs.newest_operation.NewestOperation.finish.Goals as goal
+
+pub returns-in-None-clause-stays : goal.returns-in-None-clause-stays
+returns-in-None-clause-stays g c = c.clients_stay_on.ensures.same c.args.acts.now

@@ -1,0 +1,9 @@
+use Rattle.op_latest.specs.LatestState.{calls_left}
+use Rattle.script_operations.specs.Stepping.{OnlyOutside}
+use Rattle.script_operations.proofs.newest_operation.answer_of.Given as goal
+
+abbrev pub invariant-loop-alloc : goal.invariant-loop-alloc
+invariant-loop-alloc g l = OnlyOutside l.fn.coordinator l.coordinator
+
+abbrev pub decreases-loop-alloc : goal.decreases-loop-alloc
+decreases-loop-alloc g l = calls_left l.op

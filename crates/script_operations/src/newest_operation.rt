@@ -1,0 +1,240 @@
+// An operation by which a client reads the newest row of a ledger.
+ghost use Rattle.std.specs.Prelude.{◌≡◌, ◌<◌, true, false, IfOk, IfSome, OnOk};
+ghost use Rattle.op_latest.specs.LatestState.{calls_left, is_live};
+ghost use Rattle.client_acts.specs.ClientActs.{StaysOn};
+ghost use Rattle.script_operations.specs.Stepping.{OnlyOutside};
+ghost use Rattle.script_operations.specs.Task.{HasDraw, Newest};
+
+use crate::reading::Reading;
+use answer_lines::give_latest;
+use client_acts::{ClientActs, clients_stay_on};
+use coordinator::Coordinator;
+use nim_base::{Digest, NoMemory, Nonce, Text};
+use op_entry::LatestOp;
+use port::{LatestReply, Link, Refusal, Service, Store};
+use reply_lines::done_line;
+use roster_bank::{RosterBank, RunName};
+use seal::{Checker, Scheme};
+use std::alloc::Global;
+use view_ledger::ViewChain;
+
+/// What the client asked for: the number of its draw, the label of the ledger, its handle, and the nonce of the draw.
+#[derive(Drop)]
+pub(crate) struct NewestAsked {
+    pub(crate) client: usize,
+    pub(crate) draw: u64,
+    pub(crate) label: Text,
+    pub(crate) handle: Digest,
+    pub(crate) nonce: Nonce,
+}
+
+pub(crate) struct NewestOperation {
+    pub(crate) asked: NewestAsked,
+    pub(crate) running: Option<LatestOp>,
+}
+
+impl Drop for NewestOperation {
+    fn drop(self) {
+        let NewestOperation {
+            asked: _,
+            running: _,
+        } = self;
+    }
+}
+
+impl NewestOperation {
+    /// Begins it with a copy of this chain.
+    pub(crate) fn begin(
+        alloc: Global,
+        client: usize,
+        draw: u64,
+        label: &[u8],
+        handle: Digest,
+        nonce: Nonce,
+        chain: &ViewChain,
+    ) -> Result<NewestOperation, NoMemory>
+        ensures { IfOk result (λ begun. Newest begun.asked.client begun.asked.draw begun.asked.handle begun.asked.nonce ≡ Newest client draw handle nonce) }
+    {
+        let label = Text::of(alloc, label)?;
+        let run = LatestOp::new(chain.copy(alloc)?, handle, nonce);
+        Ok(NewestOperation {
+            asked: NewestAsked {
+                client,
+                draw,
+                label,
+                handle,
+                nonce,
+            },
+            running: Some(run),
+        })
+    }
+
+    pub(crate) fn step<S: Store, L: Link, C: Checker>(
+        &mut self,
+        alloc: Global,
+        n: u64,
+        coordinator: &mut Coordinator<S, L, C>,
+    )
+        ensures asked { self.new.asked ≡ self.old.asked }
+        ensures outside { OnlyOutside coordinator.old coordinator.new }
+    {
+        if let Some(op) = &mut self.running {
+            steps(alloc, n, op, coordinator);
+        }
+    }
+
+    /// Runs it to its answer, which its client is given. `None` where it is closed.
+    pub(crate) fn finish<S: Store, G: Scheme, K: RunName>(
+        &mut self,
+        alloc: Global,
+        name: &[u8],
+        acts: &mut ClientActs<'_, G::Checker, K>,
+        coordinator: &mut Coordinator<S, RosterBank<'_, G, K>, G::Checker>,
+    ) -> Result<Option<Text>, NoMemory>
+        requires { HasDraw acts.old.clients (Newest self.old.asked.client self.old.asked.draw self.old.asked.handle self.old.asked.nonce) }
+        ensures asked { self.new.asked ≡ self.old.asked }
+        ensures stays { StaysOn acts.old acts.new }
+        ensures checker { coordinator.new.checker ≡ coordinator.old.checker }
+    {
+        clients_stay_on::<G::Checker>();
+        match self.running.take() {
+            Some(op) => {
+                let answer = answer_of(alloc, op, coordinator);
+                let line = self.asked.give(alloc, name, acts, coordinator, answer)?;
+                Ok(Some(line))
+            }
+            None => Ok(None),
+        }
+    }
+
+    /// Gives its client this reply, and closes it. `None` where it is closed.
+    pub(crate) fn give<S: Store, G: Scheme, K: RunName>(
+        &mut self,
+        alloc: Global,
+        name: &[u8],
+        reply: LatestReply,
+        acts: &mut ClientActs<'_, G::Checker, K>,
+        coordinator: &mut Coordinator<S, RosterBank<'_, G, K>, G::Checker>,
+    ) -> Result<Option<Text>, NoMemory>
+        requires { HasDraw acts.old.clients (Newest self.old.asked.client self.old.asked.draw self.old.asked.handle self.old.asked.nonce) }
+        ensures asked { self.new.asked ≡ self.old.asked }
+        ensures stays { StaysOn acts.old acts.new }
+        ensures checker { coordinator.new.checker ≡ coordinator.old.checker }
+    {
+        clients_stay_on::<G::Checker>();
+        if self.running.is_none() {
+            return Ok(None);
+        }
+        self.close();
+        let line = self.asked.give(alloc, name, acts, coordinator, Ok(reply))?;
+        Ok(Some(line))
+    }
+
+    /// Whose read it is, where it is open.
+    pub(crate) fn reading(&self) -> Option<Reading>
+        ensures { IfSome result (λ reading. Newest reading.client self.now.asked.draw reading.handle reading.nonce ≡ Newest self.now.asked.client self.now.asked.draw self.now.asked.handle self.now.asked.nonce) }
+    {
+        match &self.running {
+            Some(_) => Some(Reading {
+                client: self.asked.client,
+                handle: self.asked.handle,
+                nonce: self.asked.nonce,
+            }),
+            None => None,
+        }
+    }
+
+    /// Closes it.
+    pub(crate) fn close(&mut self)
+        ensures asked { self.new.asked ≡ self.old.asked }
+    {
+        self.running = None;
+    }
+}
+
+impl NewestAsked {
+    /// Gives the client an answer, unless it has an accepted reply already.
+    fn give<S: Store, G: Scheme, K: RunName>(
+        &self,
+        alloc: Global,
+        name: &[u8],
+        acts: &mut ClientActs<'_, G::Checker, K>,
+        coordinator: &mut Coordinator<S, RosterBank<'_, G, K>, G::Checker>,
+        answer: Result<LatestReply, Refusal>,
+    ) -> Result<Text, NoMemory>
+        requires { HasDraw acts.old.clients (Newest self.now.client self.now.draw self.now.handle self.now.nonce) }
+        ensures stays { StaysOn acts.old acts.new }
+        ensures checker { coordinator.new.checker ≡ coordinator.old.checker }
+    {
+        clients_stay_on::<G::Checker>();
+        if acts.is_answered(self.client, self.draw) {
+            return done_line(alloc, name);
+        }
+        let calls = coordinator.link().log().len();
+        give_latest(
+            alloc,
+            acts,
+            coordinator,
+            calls,
+            self.client,
+            self.draw,
+            self.label.bytes(),
+            &self.handle,
+            &self.nonce,
+            answer,
+        )
+    }
+
+    /// Asks the coordinator for it anew, unless its client has an accepted reply already.
+    pub(crate) fn retry<S: Store, G: Scheme, K: RunName>(
+        &self,
+        alloc: Global,
+        name: &[u8],
+        acts: &mut ClientActs<'_, G::Checker, K>,
+        coordinator: &mut Coordinator<S, RosterBank<'_, G, K>, G::Checker>,
+    ) -> Result<Text, NoMemory>
+        requires { HasDraw acts.old.clients (Newest self.now.client self.now.draw self.now.handle self.now.nonce) }
+        ensures stays { StaysOn acts.old acts.new }
+        ensures checker { coordinator.new.checker ≡ coordinator.old.checker }
+    {
+        clients_stay_on::<G::Checker>();
+        if acts.is_answered(self.client, self.draw) {
+            return done_line(alloc, name);
+        }
+        let answer = coordinator.latest(alloc, &self.handle, &self.nonce);
+        self.give(alloc, name, acts, coordinator, answer)
+    }
+}
+
+/// Makes up to so many calls.
+fn steps<S: Store, L: Link, C: Checker>(
+    alloc: Global,
+    n: u64,
+    op: &mut LatestOp,
+    coordinator: &mut Coordinator<S, L, C>,
+)
+    ensures outside { OnlyOutside coordinator.old coordinator.new }
+{
+    for _ in 0..n {
+        if !coordinator.step_latest(alloc, op) {
+            return;
+        }
+    }
+}
+
+/// Makes all calls to the answer.
+fn answer_of<S: Store, L: Link, C: Checker>(
+    alloc: Global,
+    op: LatestOp,
+    coordinator: &mut Coordinator<S, L, C>,
+) -> Result<LatestReply, Refusal>
+    ensures outside { OnlyOutside coordinator.old coordinator.new }
+{
+    let mut op = op;
+    while coordinator.step_latest(alloc, &mut op) {}
+    let (_, answer) = op.into_parts();
+    match answer {
+        Some(answer) => answer,
+        None => unreachable!(),
+    }
+}
