@@ -8,7 +8,7 @@ sources="$(cd "$root" && find HANDLES crates.txt crates/*/src crates/*/specs cra
 program="$root/.build/$sources/nimble"
 
 build() {
-    echo "nimble: there is no build of these sources yet; proving and building them, which takes about five minutes" >&2
+    echo "nimble: there is no build of these sources yet; proving and building them, which takes an hour or two where nothing is kept" >&2
     if ! command -v rt >/dev/null; then
         echo "nimble: this takes the command rt of the Rattle kit, which isn't here" >&2
         exit 127

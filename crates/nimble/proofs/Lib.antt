@@ -1,13 +1,2 @@
-mod Arity
-mod Bytes
-mod Carried
-mod EndorserLemmas
-mod Going
-mod Joined
 mod Known
-mod LedgerLemmas
-mod Numbers
-mod Reading
 mod Saying
-mod ServiceLemmas
-mod Within

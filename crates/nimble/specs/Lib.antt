@@ -1,13 +1,3 @@
 pub mod Words
-pub mod Line
-pub mod Script
-pub mod Seen
-pub mod Reply
-pub mod Replies
-pub mod Calls
-pub mod EndorserRows
-pub mod Rows
-pub mod Acks
-pub mod Service
-pub mod SetUp
+pub mod Lines
 pub mod Ends

@@ -1,29 +1,18 @@
 //! `nimble replay` reads a script from standard input, runs it and writes its reply lines.
 //!
-//! A request travels through these modules in this order: [`run`] takes the words, [`replay`] the
-//! source and the sink, [`input`] reads the bytes, [`answer`] says what is said to them; [`script`],
-//! [`line`] and [`words`] make lines of them, [`set_up`] gives the texts that the script rests on,
-//! which [`answer`] has `least_collision` look through, [`path`] goes from line to line, [`service`]
-//! answers one over the stored [`rows`] and its [`endorser`]s, and [`reply`] writes the answer.
+//! An input travels through these modules in this order: [`run`] takes the words, [`replay`] the source and the sink,
+//! [`input`] reads the bytes, and [`lines`] has the two lines that may stand in place of all reply lines. What the bytes say
+//! is read by `fault_script`; the texts that a script rests on come from `world_run`, and `least_collision` looks through
+//! them; the run itself, with its reply lines, is `world_run`'s. [`status`] has the statuses that a run ends with.
 #![tactic(auto)]
 
-pub mod answer;
-pub mod endorser;
 pub mod input;
-pub mod line;
-pub mod nonce;
-pub mod path;
+pub mod lines;
 pub mod replay;
-pub mod reply;
-pub mod rows;
 pub mod run;
-pub mod script;
-pub mod service;
-pub mod set_up;
 pub mod status;
 #[cfg(test)]
 mod tests;
-pub mod words;
 
 use crate::run::run;
 use crate::status::Status;

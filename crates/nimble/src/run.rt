@@ -1,7 +1,8 @@
-ghost use Rattle.std.specs.Prelude.{◌≡◌, ◌≢◌, ◌↔◌, ◌∷◌, [], false, Contains};
+ghost use Rattle.std.specs.Prelude.{◌≡◌, ◌≢◌, ◌↔◌, ◌⊎◌, ◌∷◌, [], false, Contains};
 ghost use Rattle.std.specs.Io.KnownBytes.{Keeps};
 ghost use Rattle.nim_outside.specs.Causes.{Rose};
-ghost use Rattle.nimble.specs.Ends.{IsJudged, Says, SaysFront, is_replay};
+ghost use Rattle.nimble.specs.Ends.{IsJudged, Says, SaysFirst, SaysFront, SaysPlainly};
+ghost use Rattle.nimble.specs.Words.{is_replay};
 
 use crate::replay::run_replay;
 use crate::status::Status;
@@ -34,6 +35,7 @@ pub fn run<H: Eprint, S: Source, K: Sink>(
     ensures known { result.0 ≢ 1 → Contains (0 ∷ 2 ∷ 3 ∷ 4 ∷ 5 ∷ 6 ∷ []) result.0 }
     ensures done { result.0 ≡ 0 → Says 0 (S.left source.old) (K.written sink.old) (K.written sink.new)
         × IsJudged (S.left source.old) (S.left source.new) }
+    ensures plain { result.0 ≡ 0 → SaysPlainly (S.left source.old) (K.written sink.old) (K.written sink.new) }
     ensures bad_script { result.0 ≡ 2 → Says 2 (S.left source.old) (K.written sink.old) (K.written sink.new)
         × IsJudged (S.left source.old) (S.left source.new) }
     ensures exhibit { result.0 ≡ 3 → Says 3 (S.left source.old) (K.written sink.old) (K.written sink.new)
@@ -43,7 +45,9 @@ pub fn run<H: Eprint, S: Source, K: Sink>(
     ensures write_fault { result.0 ≡ 5 → Rose (K.fault_count sink.old) (K.fault_count sink.new)
         × SaysFront (S.left source.old) (K.written sink.old) (K.written sink.new)
         × IsJudged (S.left source.old) (S.left source.new) }
-    ensures no_memory { result.0 ≡ 6 → Keeps (K.written sink.old) (K.written sink.new) }
+    ensures no_memory { result.0 ≡ 6 → Keeps (K.written sink.old) (K.written sink.new)
+        ⊎ (SaysFirst (S.left source.old) (K.written sink.old) (K.written sink.new)
+        × IsJudged (S.left source.old) (S.left source.new)) }
 {
     if is_replay(words) {
         return run_replay(alloc, source, sink);

@@ -1,11 +1,8 @@
-use crate::path::{FirstRun, first_path};
+use crate::lines::exhibit_line;
 use crate::replay::run_replay;
-use crate::reply::exhibit_line;
 use crate::run::run;
-use crate::script::read_script;
-use crate::set_up::set_up_texts;
 use crate::status::Status;
-use least_collision::{Digested, least_collision, least_collision_among};
+use least_collision::{Digested, least_collision_among};
 use nim_base::{Digest, NoMemory, Text};
 use nim_outside::{Fault, MemSink, MemSource, Sink};
 use std::alloc::Global;
@@ -87,7 +84,7 @@ fn faults_end_a_run(rt: HostRuntime) -> Result<(), Fail> {
         ("first put", FIRST_PATH, &[], &[0], 5, b""),
         ("second put", FIRST_PATH, &[], &[1], 5, b"view 0 1,2,3\n"),
         ("no put of that number", FIRST_PATH, &[], &[3], 0, all),
-        ("bad script", b"foo\n", &[], &[], 2, b"badscript\n"),
+        ("bad script", b"foo\n", &[], &[], 2, b"badline 1 order\n"),
         ("bad script, put", b"foo\n", &[], &[0], 5, b""),
     ] {
         let mut source = MemSource::new(Text::of(alloc, input)?, list(alloc, reads)?);
@@ -163,46 +160,6 @@ fn each_put_fails_in_turn(rt: HostRuntime) -> Result<(), Fail> {
             written,
             "put {failing} after {through}"
         );
-    }
-    Ok(())
-}
-
-fn first_run(alloc: Global) -> Result<Option<FirstRun>, NoMemory> {
-    let Some(script) = read_script(alloc, FIRST_PATH)? else {
-        return Ok(None);
-    };
-    let texts = set_up_texts(alloc, &script.lines)?;
-    if let Some(_) = least_collision(alloc, &texts)? {
-        return Ok(None);
-    }
-    Ok(Some(first_path(alloc, &script)?))
-}
-
-/// The calls behind the first path. The digests were worked out with Python's hashlib.
-#[test]
-fn each_member_took_both_calls(rt: HostRuntime) -> Result<(), Fail> {
-    let alloc = rt.alloc();
-    let Some(run) = first_run(alloc)? else {
-        assert!(rt; false, "the first path is no script");
-        return Ok(());
-    };
-    assert_eq!(rt; run.lists.len(), 3);
-    let handle = "dc23c41fe1150c954ae7bab3f455808d458fb76d40825c9a0c4799649ba23a76";
-    let zeros = "0000000000000000000000000000000000000000000000000000000000000000";
-    let tail = "03fbf23f85789220b478e5bf9d5e543b97aebb551d98f845fadbef5601863349";
-    let entry = "718a34f49dcba2954d30dbefec2cc198a6d80d96d69ed4cce3cdbc7806e1863c";
-    for list in &run.lists {
-        assert_eq!(rt; list.len(), 2);
-        for (call, (line, height, prev, digest)) in list
-            .iter()
-            .zip([(2, 0, zeros, handle), (3, 1, tail, entry)])
-        {
-            assert_eq!(rt; call.line, line);
-            assert_eq!(rt; call.height, height);
-            assert_eq!(rt; hex::encode(alloc, call.handle.0)?.as_str(), handle);
-            assert_eq!(rt; hex::encode(alloc, call.prev.0)?.as_str(), prev);
-            assert_eq!(rt; hex::encode(alloc, call.entry.0)?.as_str(), digest);
-        }
     }
     Ok(())
 }

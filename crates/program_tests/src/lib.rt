@@ -7,6 +7,8 @@ mod plain_scripts;
 #[cfg(test)]
 mod printed;
 #[cfg(test)]
+mod records;
+#[cfg(test)]
 mod set_ups;
 #[cfg(test)]
 mod signing;

@@ -1,4 +1,11 @@
-pub mod Nonce
 pub mod Labels
+pub mod Nonce
 pub mod World
+pub mod Going
 pub mod Lines
+pub mod Begun
+pub mod Running
+pub mod Held
+pub mod Faults
+pub mod Raw
+pub mod Signed

@@ -15,3 +15,12 @@ pub mod PlainReads
 pub mod PlainWrites
 pub mod PlainRequests
 pub mod PlainBegins
+pub mod PlainScripts
+pub mod PlainFronts
+pub mod RunLines
+pub mod MacKeys
+pub mod RunEnds
+pub mod MacRuns
+pub mod Rosters
+pub mod Genesis
+pub mod RunBegins

@@ -1,5 +1,6 @@
 -- What a run that is tied to what is known prints at a read.
 use Rattle.std.proofs.Common.{◌≡◌, ℕ, ◌+◌, ◌-◌, ◌<◌, ◌≤◌, List, [], ◌∷◌, ◌++◌, length, map, Option, Some, None, Ok, refl, sym, ap, ◌∙◌, arith}
+use Rattle.std.specs.Result.{result_err}
 use Rattle.chain_block.specs.declared.entry.Entry.{Entry}
 use Rattle.chain_block.specs.Entry.{height_of}
 use Rattle.fault_script.specs.Command.{Request, Command, Plain}
@@ -13,6 +14,8 @@ use Rattle.blob_store.specs.LyingStore.{lying_view}
 use Rattle.blob_store.specs.declared.lying_store.LyingStore.{LyingStore}
 use Rattle.view_ledger.specs.Receipts.{Accepts}
 use Rattle.verifier.specs.Outcomes.{at_outcome, latest_outcome}
+use Rattle.client_pass.specs.Act as acts
+use Rattle.client_pass.specs.ClientPass.{ClientPass}
 use Rattle.calm.specs.Calls.{IsNewestRow}
 use Rattle.coordinator.specs.CalmStates.{CalmlyServed}
 use Rattle.coordinator.specs.Says.{coordinator_says}
@@ -29,7 +32,7 @@ use Rattle.world_run.specs.Tied.{IsTied}
 use Rattle.world_run.proofs.Accepting.{at_known, latest_known, count_of}
 use Rattle.world_run.proofs.CalmRuns.{Laws, served}
 use Rattle.world_run.proofs.PlainReplies.{at_ok, at_gap, latest_none, latest_ok, payload_at, count_at, same_count}
-use Rattle.world_run.proofs.PlainSteps.{Then, quiet_line, same_eyes, stays_tied}
+use Rattle.world_run.proofs.PlainSteps.{Then, draw_keeps_chain, quiet_line, quiet_since, same_eyes, stays_tied}
 use Rattle.world_run.proofs.TiedLedgers.{payloads_of}
 
 module _ {L C : Type 0} (accepts : C → Accepts) (checks : Accepts) (lv : L → LinkView) (laws : Laws accepts lv) (texts_of : ℕ → List (List ℕ)) (script before after : List Command) (fits : IsRunnable texts_of script)
@@ -51,7 +54,7 @@ module _ {L C : Type 0} (accepts : C → Accepts) (checks : Accepts) (lv : L →
     payloads_at = payloads_of texts_of script before after (Plain request_at) fits split old.labels old.draws tied.service.ledgers known.ledgers tied.ledgers label refl refl
 
     abbrev sides_at : Sides LyingStore L C
-    sides_at = record { from = did.asked.from; to = did.asked.to; before = did.asked.middle; after = new.state }
+    sides_at = record { from = did.asked.drawn; to = did.asked.to; before = did.asked.middle; after = new.state }
 
     abbrev took_at : Accepts → Sides LyingStore L C → ServiceAnswer → Type 0
     took_at = λ accepted sides answer. TookAt accepted sides label handle height answer line
@@ -62,6 +65,10 @@ module _ {L C : Type 0} (accepts : C → Accepts) (checks : Accepts) (lv : L →
     served_at : (answer : ServiceAnswer) → SaysAt answer → CalmlyServed accepts lying_view lv did.asked.middle (At handle height) answer tied.service (tied.service.left - 1)
     served_at answer says = served accepts checks lv laws before old new known left tied did.asked.middle (At handle height) answer says
 
+    -- nothing is drawn
+    undrawn : did.asked.drawn.chain ≡ did.asked.from.chain
+    undrawn = ap (λ (pass : ClientPass C). pass.chain) did.asked.drew
+
     at_answer : (answer : ServiceAnswer) → SaysAt answer → TookAt (accepts did.asked.from.checker) sides_at label handle height answer line
         → Then accepts checks lv laws texts_of script before after fits old new known place left tied request_at line
     at_answer (Stood standing) says took =
@@ -71,7 +78,8 @@ module _ {L C : Type 0} (accepts : C → Accepts) (checks : Accepts) (lv : L →
         same_eyes accepts checks lv laws texts_of script before after fits old new known place left tied (At handle height) took_at did.asked (Stood standing) says
         (λ accepted configs. at_outcome accepted configs handle height standing ≡ None)
         (laws.at old.state did.asked.middle handle height standing says) in
-        let got = quiet_line sides_at (view_of standing.receipt.statement) (λ configs. taken_line (ok_line label height (payload_of standing.row.entry)) (at_outcome (accepts did.asked.from.checker) configs handle height standing)) line
+        let got = quiet_line did.asked.from did.asked.drawn did.asked.to did.asked.middle new.state undrawn (view_of standing.receipt.statement)
+        (λ configs. at_outcome (accepts did.asked.from.checker) configs handle height standing) (acts.At handle height standing) (taken_line (ok_line label height (payload_of standing.row.entry))) line
         took (at_known (accepts did.asked.from.checker) did.asked.from.chain.configs handle height standing out) in
         let payload : payload_of standing.row.entry ≡ payload_of calm.1 = ap (λ (row : Content). payload_of row.entry) calm.4.0 in
         let below : height < length standing_payloads = omega (arith, calm.3, count_at standing_payloads entries calm.0 calm.2.0 calm.1 payloads_at calm.2.1) in (
@@ -85,7 +93,8 @@ module _ {L C : Type 0} (accepts : C → Accepts) (checks : Accepts) (lv : L →
         let calm = is.answered in
         let high : length standing_payloads ≤ height = omega (arith, calm.2, same_count standing_payloads entries payloads_at) in (
           took.1 ∙ ap (gap_line label) calm.1 ∙ sym (at_gap standing_payloads label height high),
-          stays_tied accepts checks lv laws texts_of script before after fits old new known place left tied request_at split refl refl (At handle height) took_at did.asked (Refused (Gap ledger missing)) says did.labels (did.draws ∙ omega arith) took.0
+          stays_tied accepts checks lv laws texts_of script before after fits old new known place left tied request_at split refl refl (At handle height) took_at did.asked (Refused (Gap ledger missing)) says did.labels (did.draws ∙ omega arith)
+              (quiet_since did.asked.from did.asked.drawn did.asked.to did.asked.middle new.state undrawn took.0)
               is.later is.one_less is.tells calm.3,
         )
     at_answer (Refused NoMemory) says took = absurd took
@@ -107,7 +116,7 @@ module _ {L C : Type 0} (accepts : C → Accepts) (checks : Accepts) (lv : L →
     call_newest = Latest handle (nonce old.draws)
 
     abbrev sides_newest : Sides LyingStore L C
-    sides_newest = record { from = did.asked.from; to = did.asked.to; before = did.asked.middle; after = new.state }
+    sides_newest = record { from = did.asked.drawn; to = did.asked.to; before = did.asked.middle; after = new.state }
 
     abbrev took_newest : Accepts → Sides LyingStore L C → ServiceAnswer → Type 0
     took_newest = λ accepted sides answer. TookLatest accepted sides label handle (nonce old.draws) answer line
@@ -138,8 +147,10 @@ module _ {L C : Type 0} (accepts : C → Accepts) (checks : Accepts) (lv : L →
         let out : latest_outcome (accepts did.asked.from.checker) did.asked.from.chain.configs handle (nonce old.draws) reply ≡ Ok law.0 =
         same_eyes accepts checks lv laws texts_of script before after fits old new known place left tied call_newest took_newest did.asked (Replied reply) says
         (λ accepted configs. latest_outcome accepted configs handle (nonce old.draws) reply ≡ Ok law.0) law.1 in
-        let got = quiet_line sides_newest (view_of reply.receipt.statement) (λ configs. latest_line label reply.row (latest_outcome (accepts did.asked.from.checker) configs handle (nonce old.draws) reply)) line
-        took (latest_known (accepts did.asked.from.checker) did.asked.from.chain.configs handle (nonce old.draws) reply law.0 out) in (
+        let got = quiet_line did.asked.from did.asked.drawn did.asked.to did.asked.middle new.state
+        (draw_keeps_chain did.asked.from did.asked.drawn (nonce old.draws) None did.asked.drew) (view_of reply.receipt.statement)
+        (λ configs. latest_outcome (accepts did.asked.from.checker) configs handle (nonce old.draws) reply) (λ told. acts.Latest took.0 handle reply (result_err told)) (latest_line label reply.row) line
+        took.2 (latest_known (accepts did.asked.from.checker) did.asked.from.chain.configs handle (nonce old.draws) reply law.0 out) in (
           got.1 ∙ ap (latest_line label reply.row) out ∙ newest_of reply.row calm.1,
           stays_tied accepts checks lv laws texts_of script before after fits old new known place left tied request_newest split refl refl call_newest took_newest did.asked (Replied reply) says did.labels did.draws got.0
               is.later is.one_less is.tells calm.2,

@@ -1,5 +1,5 @@
 -- How a run that is tied to what is known is tied again after a request.
-use Rattle.std.proofs.Common.{◌≡◌, ℕ, ◌+◌, ◌-◌, ◌≤◌, true, false, List, [], ◌∷◌, ◌++◌, length, refl, sym, ap, ◌∙◌, subst, arith}
+use Rattle.std.proofs.Common.{◌≡◌, ℕ, ◌+◌, ◌-◌, ◌≤◌, true, false, List, [], ◌∷◌, ◌++◌, length, Option, refl, sym, ap, ◌∙◌, subst, arith}
 use Rattle.std.specs.Prelude.{Contains, count_by}
 use Rattle.std.proofs.lemmas.List.Elements.{Contains-append_right}
 use Rattle.chain_block.specs.declared.entry.Entry.{Entry}
@@ -16,8 +16,11 @@ use Rattle.view_ledger.specs.Views.{ViewChain}
 use Rattle.verifier.specs.Outcomes.{is_known}
 use Rattle.calm.specs.Calls.{Later, StaysCalm, GrowsCalm}
 use Rattle.calm.specs.Calm.{ServiceState, with_next}
+use Rattle.client_pass.specs.Act.{Act, Draw}
+use Rattle.client_pass.specs.ClientPass.{ClientPass, Notes}
 use Rattle.coordinator.specs.CalmStates.{Tells, after as now}
 use Rattle.coordinator.specs.Says.{coordinator_says}
+use Rattle.coordinator.specs.State.{State}
 use Rattle.script_world.specs.Lines.{Asked}
 use Rattle.answer_lines.specs.Taken.{Sides, IsQuiet, Took}
 use Rattle.script_world.specs.World.{World}
@@ -28,12 +31,21 @@ use Rattle.world_run.specs.Tied.{AreTied, IsTied}
 use Rattle.world_run.proofs.CalmRuns.{Laws, still_unbent, same_checker, same_chain, tied_then, more_news}
 use Rattle.world_run.proofs.TiedLedgers.{same_ledgers}
 
--- a reply whose view the client's chain has
-pub quiet_line : {S L C : Type 0} (sides : Sides S L C) (view : List ℕ) (line_by : List (List Member) → List ℕ) (line : List ℕ) → Took sides view line_by line
-    → is_known sides.from.chain.configs view ≡ true → IsQuiet sides × (line ≡ line_by sides.from.chain.configs)
-quiet_line sides view line_by line took known =
-    let quiet = took.known known in
-    (quiet, took.printed ∙ ap (λ (chain : ViewChain). line_by chain.configs) quiet.1)
+-- a draw leaves the chain as it is
+pub draw_keeps_chain : {C : Type 0} (from drawn : ClientPass C) (nonce : List ℕ) (intent : Option Entry) → Notes from drawn (Draw nonce intent) → drawn.chain ≡ from.chain
+draw_keeps_chain {C} from drawn nonce intent notes = ap (λ (pass : ClientPass C). pass.chain) notes.noted
+
+module _ {S L C : Type 0} (from drawn to : ClientPass C) (before after : State S L C) (same : drawn.chain ≡ from.chain) where
+  pub quiet_since : IsQuiet (record { from = drawn; to = to; before = before; after = after }) → IsQuiet (record { from = from; to = to; before = before; after = after })
+  quiet_since quiet = (quiet.0, quiet.1 ∙ same)
+
+  -- a reply whose view the client's chain has
+  pub quiet_line : {O : Type 0} (view : List ℕ) (outcome : List (List Member) → O) (act_by : O → Act) (line_by : O → List ℕ) (line : List ℕ)
+      → Took (record { from = drawn; to = to; before = before; after = after }) view outcome act_by line_by line → is_known from.chain.configs view ≡ true
+      → IsQuiet (record { from = from; to = to; before = before; after = after }) × (line ≡ line_by (outcome from.chain.configs))
+  quiet_line view outcome act_by line_by line took known =
+      let quiet = quiet_since (took.known (subst (λ (chain : ViewChain). is_known chain.configs view ≡ true) (sym same) known)) in
+      (quiet, took.printed ∙ ap (λ (chain : ViewChain). line_by (outcome chain.configs)) quiet.1)
 
 pub stands_in : {X : Type 0} (xs below above : List X) (x : X) → xs ≡ below ++ x ∷ above → Contains xs x
 stands_in {X} xs below above x split = subst (λ (l : List X). Contains l x) (sym split) (Contains-append_right below (x ∷ above) x (0, omega arith, refl))
@@ -50,7 +62,7 @@ module _ {L C : Type 0} (accepts : C → Accepts) (checks : Accepts) (lv : L →
   no_less later is = omega (arith, is, tied.enough)
 
   -- the client's checker and chain are the coordinator's
-  pub same_eyes : (call : ServiceCall) (took : Accepts → Sides LyingStore L C → ServiceAnswer → Type 0) (asked : Asked accepts lv old new place call took) (answer : ServiceAnswer)
+  pub same_eyes : {draw : Option Act} (call : ServiceCall) (took : Accepts → Sides LyingStore L C → ServiceAnswer → Type 0) (asked : Asked accepts lv old new place draw call took) (answer : ServiceAnswer)
       → coordinator_says accepts lying_view lv old.state asked.middle call answer
       → (P : Accepts → List (List Member) → Type 0) → P (accepts old.state.checker) asked.middle.chain.configs → P (accepts asked.from.checker) asked.from.chain.configs
   same_eyes call took asked answer says P is =
@@ -61,7 +73,7 @@ module _ {L C : Type 0} (accepts : C → Accepts) (checks : Accepts) (lv : L →
 
   -- nothing was appended
   pub stays_tied : (request : Request) → script ≡ before ++ Plain request ∷ after → is_new (Plain request) ≡ false → after_request known request ≡ known
-      → (call : ServiceCall) (took : Accepts → Sides LyingStore L C → ServiceAnswer → Type 0) (asked : Asked accepts lv old new place call took) (answer : ServiceAnswer)
+      → {draw : Option Act} (call : ServiceCall) (took : Accepts → Sides LyingStore L C → ServiceAnswer → Type 0) (asked : Asked accepts lv old new place draw call took) (answer : ServiceAnswer)
       → (says : coordinator_says accepts lying_view lv old.state asked.middle call answer) → new.labels ≡ old.labels → new.draws ≡ old.draws + draws_of (Plain request)
       → IsQuiet (record { from = asked.from; to = asked.to; before = asked.middle; after = new.state })
       → (later : Later) → later.left ≡ low → Tells accepts lying_view lv asked.middle (now tied.service later) → StaysCalm tied.service later
@@ -80,7 +92,7 @@ module _ {L C : Type 0} (accepts : C → Accepts) (checks : Accepts) (lv : L →
 
   -- an entry was appended
   pub grows_tied : (request : Request) (then : Known) (entry : Entry)
-      → (call : ServiceCall) (took : Accepts → Sides LyingStore L C → ServiceAnswer → Type 0) (asked : Asked accepts lv old new place call took) (answer : ServiceAnswer)
+      → {draw : Option Act} (call : ServiceCall) (took : Accepts → Sides LyingStore L C → ServiceAnswer → Type 0) (asked : Asked accepts lv old new place draw call took) (answer : ServiceAnswer)
       → (says : coordinator_says accepts lying_view lv old.state asked.middle call answer)
       → IsQuiet (record { from = asked.from; to = asked.to; before = asked.middle; after = new.state })
       → (later : Later) → later.left ≡ low → Tells accepts lying_view lv asked.middle (now tied.service later) → GrowsCalm tied.service entry later

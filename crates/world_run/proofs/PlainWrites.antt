@@ -19,6 +19,7 @@ use Rattle.blob_store.specs.declared.lying_store.LyingStore.{LyingStore}
 use Rattle.tail_map.specs.TailMap.{has_handle}
 use Rattle.view_ledger.specs.Receipts.{Accepts}
 use Rattle.verifier.specs.Outcomes.{append_outcome, at_outcome}
+use Rattle.client_pass.specs.Act as acts
 use Rattle.calm.specs.Appending.{row_of}
 use Rattle.calm.specs.Calls.{GrowsCalm}
 use Rattle.calm.specs.Calm.{rows_with}
@@ -39,7 +40,7 @@ use Rattle.world_run.specs.Tied.{AreTied, IsTied}
 use Rattle.world_run.proofs.Accepting.{append_known, at_known}
 use Rattle.world_run.proofs.CalmRuns.{Laws, served, more_news}
 use Rattle.world_run.proofs.PlainReplies.{append_ok, append_conflict, append_gap, payload_at, count_at, same_count, after_ok, after_same}
-use Rattle.world_run.proofs.PlainSteps.{Then, quiet_line, stands_in, same_eyes, stays_tied, grows_tied}
+use Rattle.world_run.proofs.PlainSteps.{Then, draw_keeps_chain, quiet_line, quiet_since, stands_in, same_eyes, stays_tied, grows_tied}
 use Rattle.world_run.proofs.RowCounts.{one_row_more, no_row_more, counted_row}
 use Rattle.world_run.proofs.TiedLedgers.{new_ledger, means, payloads_of, none_own, one_more, first_one}
 
@@ -68,7 +69,7 @@ module _ {L C : Type 0} (accepts : C → Accepts) (checks : Accepts) (lv : L →
     payloads = payloads_of texts_of script before after (Plain request) fits split old.labels old.draws tied.service.ledgers known.ledgers tied.ledgers label refl refl
 
     abbrev sides : Sides LyingStore L C
-    sides = record { from = did.asked.from; to = did.asked.to; before = did.asked.middle; after = new.state }
+    sides = record { from = did.asked.drawn; to = did.asked.to; before = did.asked.middle; after = new.state }
 
     abbrev took_by : Accepts → Sides LyingStore L C → ServiceAnswer → Type 0
     took_by = λ accepted sides answer. TookOwn accepted sides label entry answer line
@@ -101,6 +102,9 @@ module _ {L C : Type 0} (accepts : C → Accepts) (checks : Accepts) (lv : L →
         subst (λ (draws : ℕ). AreTied (before ++ Plain request ∷ []) new.labels draws (with_entry tied.service.ledgers handle entry) (set known.ledgers label (standing ++ payload ∷ []))) (sym did.draws)
         (subst (λ (labels : Labels). AreTied (before ++ Plain request ∷ []) labels (old.draws + 1) (with_entry tied.service.ledgers handle entry) (set known.ledgers label (standing ++ payload ∷ []))) (sym did.labels) is)
 
+    drawn_chain : did.asked.drawn.chain ≡ did.asked.from.chain
+    drawn_chain = draw_keeps_chain did.asked.from did.asked.drawn (nonce old.draws) (Some entry) did.asked.drew
+
     append_answer : (answer : ServiceAnswer) → SaysTo answer → TookOwn (accepts did.asked.from.checker) sides label entry answer line
         → Then accepts checks lv laws texts_of script before after fits old new known place left tied request line
     append_answer (Stood stood) says took =
@@ -109,8 +113,9 @@ module _ {L C : Type 0} (accepts : C → Accepts) (checks : Accepts) (lv : L →
         same_eyes accepts checks lv laws texts_of script before after fits old new known place left tied call took_by did.asked (Stood stood) says
         (λ accepted configs. append_outcome accepted configs entry stood ≡ None)
         (laws.later old.state did.asked.middle handle height (nonce old.draws) payload stood says) in
-        let got = quiet_line sides (view_of stood.receipt.statement) (λ configs. taken_line (ok_line label height payload) (append_outcome (accepts did.asked.from.checker) configs entry stood)) line
-        took (append_known (accepts did.asked.from.checker) did.asked.from.chain.configs entry stood out) in
+        let got = quiet_line did.asked.from did.asked.drawn did.asked.to did.asked.middle new.state drawn_chain (view_of stood.receipt.statement)
+        (λ configs. append_outcome (accepts did.asked.from.checker) configs entry stood) (acts.Append took.0 stood) (taken_line (ok_line label height payload)) line
+        took.2 (append_known (accepts did.asked.from.checker) did.asked.from.chain.configs entry stood out) in
         elim is.answered [
           | inl grew ↦
               let next : height ≡ length standing = grew.0 ∙ sym (same_count standing entries payloads) in (
@@ -130,7 +135,8 @@ module _ {L C : Type 0} (accepts : C → Accepts) (checks : Accepts) (lv : L →
         same_eyes accepts checks lv laws texts_of script before after fits old new known place left tied call took_by did.asked (Refused (Conflict stood)) says
         (λ accepted configs. at_outcome accepted configs handle height stood ≡ None)
         (laws.conflict old.state did.asked.middle handle height (nonce old.draws) payload stood says) in
-        let got = quiet_line sides (view_of stood.receipt.statement) (λ configs. taken_line (conflict_line label height (payload_of stood.row.entry)) (at_outcome (accepts did.asked.from.checker) configs handle height stood)) line
+        let got = quiet_line did.asked.from did.asked.drawn did.asked.to did.asked.middle new.state drawn_chain (view_of stood.receipt.statement)
+        (λ configs. at_outcome (accepts did.asked.from.checker) configs handle height stood) (acts.Look handle height stood) (taken_line (conflict_line label height (payload_of stood.row.entry))) line
         took (at_known (accepts did.asked.from.checker) did.asked.from.chain.configs handle height stood out) in
         let other : payload_of stood.row.entry ≡ payload_of calm.1 = ap (λ (row : Content). payload_of row.entry) calm.5.0 in
         let below : height < length standing = omega (arith, calm.3, count_at standing entries calm.0 calm.2.0 calm.1 payloads calm.2.1) in
@@ -147,7 +153,7 @@ module _ {L C : Type 0} (accepts : C → Accepts) (checks : Accepts) (lv : L →
         let apart : height ≢ length standing = λ e. absurd (omega (arith, e, count, calm.1)) in (
           took.1 ∙ sym (append_gap standing label payload height missing count calm.1),
           stays_tied accepts checks lv laws texts_of script before after fits old new known place left tied request split refl (after_same known client label payload height apart) call took_by did.asked (Refused (Gap ledger missing)) says
-              did.labels did.draws took.0 is.later is.one_less is.tells calm.3,
+              did.labels did.draws (quiet_since did.asked.from did.asked.drawn did.asked.to did.asked.middle new.state drawn_chain took.0) is.later is.one_less is.tells calm.3,
         )
     append_answer (Refused NoMemory) says took = absurd took
     append_answer (Refused cause) says took = absurd (served_to (Refused cause) says).answered
@@ -171,7 +177,7 @@ module _ {L C : Type 0} (accepts : C → Accepts) (checks : Accepts) (lv : L →
     handle_new = handle_of entry_new
 
     abbrev sides_new : Sides LyingStore L C
-    sides_new = record { from = did.asked.from; to = did.asked.to; before = did.asked.middle; after = new.state }
+    sides_new = record { from = did.asked.drawn; to = did.asked.to; before = did.asked.middle; after = new.state }
 
     abbrev took_new : Accepts → Sides LyingStore L C → ServiceAnswer → Type 0
     took_new = λ accepted sides answer. TookOwn accepted sides label entry_new answer line
@@ -212,8 +218,10 @@ module _ {L C : Type 0} (accepts : C → Accepts) (checks : Accepts) (lv : L →
         same_eyes accepts checks lv laws texts_of script before after fits old new known place left tied call_new took_new did.asked (Stood stood) says
         (λ accepted configs. append_outcome accepted configs entry_new stood ≡ None)
         (laws.first old.state did.asked.middle (nonce old.draws) payload stood says) in
-        let got = quiet_line sides_new (view_of stood.receipt.statement) (λ configs. taken_line (ok_line label 0 payload) (append_outcome (accepts did.asked.from.checker) configs entry_new stood)) line
-        took (append_known (accepts did.asked.from.checker) did.asked.from.chain.configs entry_new stood out) in
+        let got = quiet_line did.asked.from did.asked.drawn did.asked.to did.asked.middle new.state
+        (draw_keeps_chain did.asked.from did.asked.drawn (nonce old.draws) (Some entry_new) did.asked.drew) (view_of stood.receipt.statement)
+        (λ configs. append_outcome (accepts did.asked.from.checker) configs entry_new stood) (acts.Append took.0 stood) (taken_line (ok_line label 0 payload)) line
+        took.2 (append_known (accepts did.asked.from.checker) did.asked.from.chain.configs entry_new stood out) in
         let grew : GrowsCalm tied.service entry_new is.later = elim calm.1 [
           | inl more ↦ more.2
           | inr stayed ↦ let both = sym no_entry ∙ stayed.1 in absurd (cc both)

@@ -3,3 +3,8 @@ pub mod Seals
 pub mod SetUp
 pub mod PlainRun
 pub mod Tied
+pub mod Roster
+pub mod Runs
+pub mod Printing
+pub mod Replayed
+pub mod Printed

@@ -1,0 +1,108 @@
+// Operations that a script begins. Each draws as the line does that is done at once, and makes no call.
+ghost use Rattle.std.specs.Prelude.{◌≡◌, ◌≤◌, ◌<◌, ◌^◌, length, OnOk};
+ghost use Rattle.script_world.specs.Begun.{BeganAppend, BeganLatest, BeganNew};
+ghost use Rattle.script_world.specs.Going.{GoesOn};
+ghost use Rattle.script_world.specs.Running.{world_of};
+
+use crate::asking::{calls, draw_entry, draw_read};
+use crate::entries::{after, first_of, later_of};
+use crate::labels::handle_for;
+use crate::nonces::nonce;
+use crate::world::World;
+use nim_base::NoMemory;
+use roster_bank::RunName;
+use script_operations::operations_keep_draws;
+use seal::{Checker, Scheme};
+
+impl<'w, G: Scheme, K: RunName> World<'w, G, K> {
+    /// `begin OP new`: the label means the ledger of the entry from now on. What an operation of this name was before is forgotten, here as
+    /// in each of the other beginnings.
+    pub fn begin_new(
+        &mut self,
+        op: &[u8],
+        client: usize,
+        label: &[u8],
+        payload: &[u8],
+    ) -> Result<(), NoMemory>
+        requires client { client < length self.old.clients }
+        requires payload { length payload.now ≤ 65536 }
+        ensures began { OnOk result (BeganNew (world_of self.old) (world_of self.new) client label.now payload.now) }
+        ensures goes { OnOk result (GoesOn (world_of self.old) (world_of self.new)) }
+    {
+        operations_keep_draws::<G::Checker>();
+        let next = after(self.draws)?;
+        let entry = first_of(self.alloc, self.draws, payload)?;
+        let draw = draw_entry(&mut self.acts, client, calls(&self.coordinator), &entry)?;
+        self.labels.set(self.alloc, label, entry.handle())?;
+        self.draws = next;
+        let chain = self.coordinator.chain();
+        self.operations
+            .begin_own(op, client, draw, label, entry, chain)?;
+        Ok(())
+    }
+
+    /// `begin OP append`, at a height from 1 to 2^32 - 1.
+    pub fn begin_append(
+        &mut self,
+        op: &[u8],
+        client: usize,
+        label: &[u8],
+        height: u64,
+        payload: &[u8],
+    ) -> Result<(), NoMemory>
+        requires client { client < length self.old.clients }
+        requires from { 1 ≤ height }
+        requires below { height < 2 ^ 32 }
+        requires payload { length payload.now ≤ 65536 }
+        ensures began { OnOk result (BeganAppend (world_of self.old) (world_of self.new) client label.now height payload.now) }
+        ensures goes { OnOk result (GoesOn (world_of self.old) (world_of self.new)) }
+    {
+        operations_keep_draws::<G::Checker>();
+        let next = after(self.draws)?;
+        let handle = handle_for(&self.labels, label);
+        let entry = later_of(self.alloc, handle, height, self.draws, payload)?;
+        let draw = draw_entry(&mut self.acts, client, calls(&self.coordinator), &entry)?;
+        self.draws = next;
+        let chain = self.coordinator.chain();
+        self.operations
+            .begin_own(op, client, draw, label, entry, chain)?;
+        Ok(())
+    }
+
+    /// `begin OP latest`.
+    pub fn begin_latest(&mut self, op: &[u8], client: usize, label: &[u8]) -> Result<(), NoMemory>
+        requires { client < length self.old.clients }
+        ensures began { OnOk result (BeganLatest (world_of self.old) (world_of self.new) client) }
+        ensures goes { OnOk result (GoesOn (world_of self.old) (world_of self.new)) }
+    {
+        operations_keep_draws::<G::Checker>();
+        let next = after(self.draws)?;
+        let handle = handle_for(&self.labels, label);
+        let nonce = nonce(self.draws);
+        let draw = draw_read(&mut self.acts, client, calls(&self.coordinator), &nonce)?;
+        self.draws = next;
+        let chain = self.coordinator.chain();
+        self.operations
+            .begin_newest(op, client, draw, label, handle, nonce, chain)?;
+        Ok(())
+    }
+
+    /// `begin OP at`, at a height below 2^32. It draws nothing.
+    pub fn begin_at(
+        &mut self,
+        op: &[u8],
+        client: usize,
+        label: &[u8],
+        height: u64,
+    ) -> Result<(), NoMemory>
+        requires client { client < length self.old.clients }
+        requires below { height < 2 ^ 32 }
+        ensures { self.new ≡ self.old }
+    {
+        let handle = handle_for(&self.labels, label);
+        let chain = self.coordinator.chain();
+        self.operations
+            .begin_height(op, client, label, handle, height, chain)?;
+        Ok(())
+    }
+}

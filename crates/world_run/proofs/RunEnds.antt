@@ -1,0 +1,92 @@
+-- How the run of a script ends: with its record, or after some first lines.
+use Rattle.std.proofs.Common.{◌≡◌, ◌≢◌, inl, inr, ℕ, List, [], ◌∷◌, ◌++◌, map, true, refl, sym, ap₂, subst, ◌∙◌, append-nil}
+use Rattle.fault_script.specs.Command.{Command}
+use Rattle.std.specs.Prelude.{AllPairs}
+use Rattle.fault_script.specs.Script.{is_plain}
+use Rattle.fault_script.specs.Within.{AllFit}
+use Rattle.statement.specs.declared.member.Member.{Member}
+use Rattle.view_ledger.specs.Receipts.{Accepts}
+use Rattle.view_ledger.specs.Extension.{AreGenuine}
+use Rattle.view_ledger.specs.Views.{ViewChain}
+use Rattle.endorser_cell.specs.CellBank.{CellBank}
+use Rattle.client_pass.specs.Record.{IsRecord, Record}
+use Rattle.roster_bank.specs.Roster.{lists_of}
+use Rattle.run_record.specs.Stamping.{acts_of, calls_of}
+use Rattle.script_world.specs.Running.{Running}
+use Rattle.world_run.specs.Plain.{nothing, replies}
+use Rattle.world_run.specs.Printing.{RanAndPut, RanFrontAndPut}
+use Rattle.world_run.specs.Replayed.{Begins, HaveLeftFor, Prints, PrintsFirst, PrintsFront, Replayed, first_ids}
+use Rattle.world_run.specs.Roster.{KeysAreApart, all_members, members_by}
+use Rattle.world_run.specs.Runs.{AllCanRun, Runs}
+
+-- what fits can be run
+pub can_run : (earlier commands : List Command) → AllFit earlier commands → AllCanRun commands
+can_run earlier [] fit = tt
+can_run earlier (command ∷ commands) fit = ((fit.0.limits, fit.0.served), can_run (earlier ++ command ∷ []) commands fit.1)
+
+-- a record of the run's own members is one by what the run's signers are checked by
+pub made_record : (key_of : ℕ → List ℕ) (ids : List ℕ) (roster members genesis : List Member) (agreed checks : Accepts) (first : ViewChain) (made : Record) → members ≡ all_members key_of → agreed ≡ checks
+    → KeysAreApart key_of → roster ≡ all_members key_of → genesis ≡ members_by key_of ids → AreGenuine roster genesis
+    → first ≡ record { roster = all_members key_of; configs = members_by key_of ids ∷ [] }
+    → (roster ≡ members → first ≡ record { roster = members; configs = genesis ∷ [] } → AllPairs (λ (one other : Member). one.key ≢ other.key) members → AreGenuine members genesis → IsRecord agreed made)
+    → IsRecord checks made
+made_record key_of ids roster members genesis agreed checks first made named same apart all is genuine begins law =
+    let own : roster ≡ members = all ∙ sym named in
+    let chain : first ≡ record { roster = members; configs = genesis ∷ [] } = begins ∙ ap₂ (λ (r g : List Member). record { roster = r; configs = g ∷ [] }) (sym named) (sym is) in
+    subst (λ (accepted : Accepts). IsRecord accepted made) same
+    (law own chain (subst (λ (r : List Member). AllPairs (λ (one other : Member). one.key ≢ other.key) r) (sym named) apart) (subst (λ (r : List Member). AreGenuine r genesis) own genuine))
+
+module _ {S C : Type 0} (key : S → List ℕ) (left size : S → ℕ) (signs : S → List ℕ → List ℕ → S → Type 0) (fit : S → C → Type 0) (accepts : C → Accepts) (key_of : ℕ → List ℕ) (left_of : ℕ → ℕ) (checks : Accepts)
+    (script : List Command) where
+  -- what a plain script prints, whole and in front
+  pub record PlainLaws : Type 0 where
+    pub whole : (made : Record) (printed : List (List ℕ)) → Replayed key left size signs fit accepts key_of left_of checks script made printed → is_plain script ≡ true → HaveLeftFor left_of script
+        → printed ≡ replies nothing script
+    pub front : (printed : List (List ℕ)) → PrintsFront key left size signs fit accepts key_of left_of checks script printed → is_plain script ≡ true → HaveLeftFor left_of script
+        → (more : List (List ℕ)) × (replies nothing script ≡ printed ++ more)
+
+  abbrev pub FirstPut : (List (List ℕ) → Type 0) → Type 0
+  FirstPut put = (printed : List (List ℕ)) × PrintsFirst key left size signs fit accepts key_of left_of checks script printed × put printed
+
+  first_put : PlainLaws → (printed : List (List ℕ)) → PrintsFront key left size signs fit accepts key_of left_of checks script printed
+      → PrintsFirst key left size signs fit accepts key_of left_of checks script printed
+  first_put laws printed front = record { front = front; plain = laws.front printed front }
+
+  -- nothing was begun
+  pub nothing_put : PlainLaws → (put : List (List ℕ) → Type 0) → put [] → FirstPut put
+  nothing_put laws put was = ([], first_put laws [] (inl refl), was)
+
+  module _ (commands : List Command) (same : commands ≡ script) (first : Running (CellBank S C) C) (begins : Begins key left accepts key_of left_of checks (first_ids script) first) where
+    -- some first lines were done
+    pub front_put : PlainLaws → (put : List (List ℕ) → Type 0) → RanFrontAndPut key left size signs fit accepts checks commands first put → FirstPut put
+    front_put laws put ran = (
+      ran.ran.0,
+      first_put laws ran.ran.0 (inr (record { first = first; last = ran.last; begins = begins; front = ran.front; rest = ran.rest; split = sym same ∙ ran.split; runs = ran.ran.1 })),
+      ran.ran.2,
+    )
+
+    -- all lines were done, and no record was made
+    pub all_put : PlainLaws → (last : Running (CellBank S C) C) (put : List (List ℕ) → Type 0) → RanAndPut key left size signs fit accepts checks commands first last put → FirstPut put
+    all_put laws last put ran = (
+      ran.0,
+      first_put laws ran.0 (inr (record { first = first; last = last; begins = begins; front = commands; rest = []; split = sym same ∙ sym (append-nil commands); runs = ran.1 })),
+      ran.2,
+    )
+
+    -- all lines were done, and this is the record
+    pub all_recorded : PlainLaws → (last : Running (CellBank S C) C) (made : Record) (put : List (List ℕ) → Type 0) → RanAndPut key left size signs fit accepts checks commands first last put
+        → map calls_of made.cells ≡ map calls_of (lists_of last.state.link.cells) → map acts_of made.passes ≡ map (λ client. acts_of client.lines) last.clients
+        → made.roster ≡ all_members key_of → made.genesis ≡ members_by key_of (first_ids script)
+        → (printed : List (List ℕ)) × Prints key left size signs fit accepts key_of left_of checks script made printed × put printed
+    all_recorded laws last made put ran cells passes roster genesis =
+        let did : Replayed key left size signs fit accepts key_of left_of checks script made ran.0 = record {
+          first = first;
+          last = last;
+          begins = begins;
+          runs = subst (λ (lines : List Command). Runs key left size signs fit accepts checks lines first last ran.0) same ran.1;
+          cells = cells;
+          passes = passes;
+          roster = roster;
+          genesis = genesis;
+        } in
+        (ran.0, record { replayed = did; plain = laws.whole made ran.0 did }, ran.2)

@@ -1,0 +1,81 @@
+-- How a run begins, what it leaves, and what it printed.
+use Rattle.std.specs.Prelude.{◌≡◌, ◌⊎◌, ℕ, ◌≤◌, Bool, true, false, List, [], ◌∷◌, ◌++◌, map, count_by, Some}
+use Rattle.fault_script.specs.Command.{Command, Genesis, End}
+use Rattle.fault_script.specs.Script.{is_plain}
+use Rattle.port.specs.Contents.{nothing as nothing_stands}
+use Rattle.blob_store.specs.LyingStore.{lying_view}
+use Rattle.blob_store.specs.MemStore.{itself, never}
+use Rattle.view_ledger.specs.Receipts.{Accepts}
+use Rattle.endorser_cell.specs.CellBank.{CellBank}
+use Rattle.client_pass.specs.Record.{Record}
+use Rattle.roster_bank.specs.Roster.{lists_of}
+use Rattle.run_record.specs.Stamping.{acts_of, calls_of}
+use Rattle.script_world.specs.Running.{Running, world_of}
+use Rattle.world_run.specs.Plain.{nothing, replies}
+use Rattle.world_run.specs.Roster.{IsNewBank, all_members, members_by}
+use Rattle.world_run.specs.Runs.{Runs}
+use Rattle.world_run.specs.Seals.{IsId}
+use Rattle.world_run.specs.Tied.{IsUnbegun}
+
+-- the ids of a script's first line
+abbrev pub first_ids : List Command → List ℕ
+first_ids (Genesis ids ∷ commands) = ids
+first_ids _ = []
+
+-- any line but `genesis` and `end`
+abbrev pub is_between : Command → Bool
+is_between (Genesis ids) = false
+is_between End = false
+is_between _ = true
+
+-- Each endorser has at least as many signatures as the script has lines besides `genesis` and `end`.
+abbrev pub HaveLeftFor : (ℕ → ℕ) → List Command → Type 0
+HaveLeftFor left_of script = (id : ℕ) → IsId id → count_by is_between script ≤ left_of id
+
+module _ {S C : Type 0} (key : S → List ℕ) (left : S → ℕ) (accepts : C → Accepts) (key_of : ℕ → List ℕ) (left_of : ℕ → ℕ) (checks : Accepts) where
+  -- Nothing was done yet: nothing stands in the store, which is honest, none of the endorsers 1 to 64 was asked anything, there are no
+  -- clients, and the chain has view 0 alone, of the members of these ids.
+  pub record Begins (ids : List ℕ) (world : Running (CellBank S C) C) : Type 0 where
+    pub unbegun : IsUnbegun (world_of world)
+    pub chain : world.state.chain ≡ record { roster = all_members key_of; configs = members_by key_of ids ∷ [] }
+    pub store : (lying_view world.state.store).truth ≡ Some (record { contents = nothing_stands; source = itself; forks = never; due = 0 })
+    pub told : (lying_view world.state.store).told ≡ Some nothing_stands
+    pub checker : accepts world.state.checker ≡ checks
+    pub bank : IsNewBank key left accepts key_of left_of checks world.state.link
+
+module _ {S C : Type 0} (key : S → List ℕ) (left size : S → ℕ) (signs : S → List ℕ → List ℕ → S → Type 0) (fit : S → C → Type 0) (accepts : C → Accepts) (key_of : ℕ → List ℕ) (left_of : ℕ → ℕ) (checks : Accepts) where
+  -- The script's lines were run one after the other, each on what came of those before, and printed these lines. The record has what each
+  -- endorser was asked and answered in this run, and what each client did in it.
+  pub record Replayed (script : List Command) (made : Record) (printed : List (List ℕ)) : Type 0 where
+    pub first : Running (CellBank S C) C
+    pub last : Running (CellBank S C) C
+    pub begins : Begins key left accepts key_of left_of checks (first_ids script) first
+    pub runs : Runs key left size signs fit accepts checks script first last printed
+    pub cells : map calls_of made.cells ≡ map calls_of (lists_of last.state.link.cells)
+    pub passes : map acts_of made.passes ≡ map (λ client. acts_of client.lines) last.clients
+    pub roster : made.roster ≡ all_members key_of
+    pub genesis : made.genesis ≡ members_by key_of (first_ids script)
+
+  -- Some of the script's first lines were run so and printed these lines.
+  pub record RanFront (script : List Command) (printed : List (List ℕ)) : Type 0 where
+    pub first : Running (CellBank S C) C
+    pub last : Running (CellBank S C) C
+    pub begins : Begins key left accepts key_of left_of checks (first_ids script) first
+    pub front : List Command
+    pub rest : List Command
+    pub split : script ≡ front ++ rest
+    pub runs : Runs key left size signs fit accepts checks front first last printed
+
+  -- Nothing was begun and nothing was printed, or they were.
+  abbrev pub PrintsFront : List Command → List (List ℕ) → Type 0
+  PrintsFront script printed = (printed ≡ []) ⊎ RanFront script printed
+
+  -- Such a run printed these lines and made this record. For a plain script they are the plain replies.
+  pub record Prints (script : List Command) (made : Record) (printed : List (List ℕ)) : Type 0 where
+    pub replayed : Replayed script made printed
+    pub plain : is_plain script ≡ true → HaveLeftFor left_of script → printed ≡ replies nothing script
+
+  -- Such a run printed these lines first.
+  pub record PrintsFirst (script : List Command) (printed : List (List ℕ)) : Type 0 where
+    pub front : PrintsFront script printed
+    pub plain : is_plain script ≡ true → HaveLeftFor left_of script → (more : List (List ℕ)) × (replies nothing script ≡ printed ++ more)

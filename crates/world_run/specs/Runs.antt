@@ -1,0 +1,173 @@
+-- What the lines of a script make of a run, one after the other, and what it prints.
+use Rattle.std.specs.Prelude.{◌≡◌, ◌≢◌, ◌+◌, ◌-◌, ◌^◌, ℕ, ◌≤◌, min, true, List, [], ◌∷◌, ◌++◌, length, Result, Ok, Err, Option, Some, None}
+use Rattle.nim_base.specs.Text.{Content}
+use Rattle.fault_script.specs.Command.{Request, Command, Genesis, Plain, Restart, Begin, Step, Finish, Retry, LoseRequest, LoseReply, StoreFail, StoreHide, StoreStale, StoreFork, StoreHonest, RawAppend, RawLatest, RawShow, RawFinalize, Offer, Forge, End}
+use Rattle.fault_script.specs.Command as requests
+use Rattle.fault_script.specs.Limits.{is_served}
+use Rattle.fault_script.specs.Within.{IsWithin}
+use Rattle.port.specs.Call.{Latest, Show}
+use Rattle.port.specs.Cause.{Cause, NoMemory}
+use Rattle.port.specs.View.{ViewRow}
+use Rattle.port.specs.declared.key.Key.{Key}
+use Rattle.port.specs.declared.key.Key.TheVariants.{Row}
+use Rattle.blob_store.specs.LyingStore.{lying_view, held_in}
+use Rattle.blob_store.specs.MemStore.{itself, never}
+use Rattle.blob_store.specs.declared.lie.Lie.{Lie}
+use Rattle.blob_store.specs.declared.lie.Lie.TheVariants as lies
+use Rattle.view_ledger.specs.Receipts.{Accepts}
+use Rattle.endorser_cell.specs.Asking.{LosesMore}
+use Rattle.endorser_cell.specs.CellBank.{CellBank, bank_view}
+use Rattle.endorser_cell.specs.declared.losses.Loss.{Loss}
+use Rattle.endorser_cell.specs.declared.losses.Loss.TheVariants as losses
+use Rattle.coordinator.specs.First.{SaysOfFirst}
+use Rattle.reply_lines.specs.Causes.{refusal_line}
+use Rattle.reply_lines.specs.Lines.{view_line}
+use Rattle.script_world.specs.Begun.{BeganAppend, BeganLatest, BeganNew}
+use Rattle.script_world.specs.Faults.{LiesSo}
+use Rattle.script_world.specs.Going.{GoesOn}
+use Rattle.script_world.specs.Labels.{handle_for}
+use Rattle.script_world.specs.Lines.{ClientCame, Restarted}
+use Rattle.script_world.specs.Nonce.{nonce}
+use Rattle.script_world.specs.Raw.{AnsweredRaw, AppendedRaw, OnlyLink, OnlyStore}
+use Rattle.script_world.specs.Running.{Running, world_of}
+use Rattle.script_world.specs.World.{World}
+use Rattle.world_run.specs.PlainRun.{Does}
+
+-- a line that can be run: it keeps the limits of its words, and lines may say it
+abbrev pub CanRun : Command → Type 0
+CanRun command = IsWithin command × (is_served command ≡ true)
+
+abbrev pub AllCanRun : List Command → Type 0
+AllCanRun [] = Unit {0}
+AllCanRun (command ∷ commands) = CanRun command × AllCanRun commands
+
+-- the bytes of a line, where there is one
+abbrev pub said_in : Option Content → List (List ℕ)
+said_in None = []
+said_in (Some line) = line.bytes ∷ []
+
+-- what the first line is answered: view 0 with its ids, or why it wasn't set up
+abbrev pub first_line : List ℕ → Result ViewRow Cause → List ℕ
+first_line ids (Ok row) = view_line 0 ids
+first_line ids (Err cause) = refusal_line [] cause
+
+-- this holds of the line that is said, if one is
+abbrev pub IfSaid : List (List ℕ) → (List ℕ → Type 0) → Type 0
+IfSaid [] P = Unit {0}
+IfSaid (line ∷ lines) P = P line
+
+-- what the client at this place asked for was begun as an operation: what it draws, and what its label means then
+abbrev pub Began : {L C : Type 0} → World L C → World L C → ℕ → Request → Type 0
+Began old new place (requests.New client label payload) = BeganNew old new place label payload
+Began old new place (requests.Append client label height payload) = BeganAppend old new place label height payload
+Began old new place (requests.Latest client label) = BeganLatest old new place
+Began old new place (requests.At client label height) = new ≡ old
+Began old new place (requests.Reconfigure ids) = ⊥
+
+-- what a line does that is none of a service's calls
+module _ {L C : Type 0} (old new : Running L C) where
+  -- so many more calls of the store fail
+  pub record FailsMore (n : ℕ) : Type 0 where
+    pub rest : OnlyStore old new
+    pub due : (held_in new.state.store).due ≡ min ((held_in old.state.store).due + n) (2 ^ 64 - 1 - (lying_view old.state.store).faults)
+    pub contents : (held_in new.state.store).contents ≡ (held_in old.state.store).contents
+
+  -- all lies of the store end
+  pub record EndsLies : Type 0 where
+    pub rest : OnlyStore old new
+    pub source : (held_in new.state.store).source ≡ itself
+    pub forks : (held_in new.state.store).forks ≡ never
+    pub contents : (held_in new.state.store).contents ≡ (held_in old.state.store).contents
+    pub due : (held_in new.state.store).due ≡ (held_in old.state.store).due
+
+  abbrev pub Lies : Lie → Type 0
+  Lies lie = OnlyStore old new × LiesSo old.state.store new.state.store lie
+
+  -- the row that a label and a height mean
+  abbrev pub row_at : List ℕ → ℕ → Key
+  row_at label height = Row (handle_for (world_of old).labels label) height
+
+  -- an open operation made calls
+  pub record Stepped : Type 0 where
+    pub goes : GoesOn (world_of old) (world_of new)
+    pub rest : new ≡ record old { state = new.state }
+    pub chain : new.state.chain ≡ old.state.chain
+    pub refused : new.state.refused ≡ old.state.refused
+
+  -- an operation was given an answer, or there was none of that name
+  pub record Told (said : List (List ℕ)) : Type 0 where
+    pub goes : GoesOn (world_of old) (world_of new)
+    pub ledgers : new.ledgers ≡ old.ledgers
+    pub draws : new.draws ≡ old.draws
+    pub few : length said ≤ 1
+
+module _ {S C : Type 0} (key : S → List ℕ) (left size : S → ℕ) (signs : S → List ℕ → List ℕ → S → Type 0) (fit : S → C → Type 0) (accepts : C → Accepts) (checks : Accepts) where
+  module _ (old new : Running (CellBank S C) C) (said : List (List ℕ)) where
+    -- the coordinator was asked to set up view 0
+    pub record DidGenesis (ids : List ℕ) : Type 0 where
+      pub answer : Result ViewRow Cause
+      pub says : SaysOfFirst accepts lying_view (bank_view key left accepts) old.state new.state answer
+      pub others : new ≡ record old { state = new.state }
+      pub room : answer ≢ Err NoMemory
+      pub one : said ≡ first_line ids answer ∷ []
+
+    -- the line's client was there or came, and what it asked for was done at once
+    pub record DidRequest (request : Request) : Type 0 where
+      pub place : ℕ
+      pub asking : World (CellBank S C) C
+      pub came : ClientCame accepts checks (world_of old) asking place
+      pub line : List ℕ
+      pub does : Does accepts (bank_view key left accepts) asking (world_of new) place request line
+      pub one : said ≡ line ∷ []
+
+    -- the line's client was there or came, and an operation was begun; nothing was said
+    pub record DidBegin (request : Request) : Type 0 where
+      pub place : ℕ
+      pub asking : World (CellBank S C) C
+      pub came : ClientCame accepts checks (world_of old) asking place
+      pub began : Began asking (world_of new) place request
+      pub goes : GoesOn asking (world_of new)
+      pub none : said ≡ []
+
+    -- so many more calls of the endorser are lost
+    pub record DidLose (id : ℕ) (which : Loss) (n : ℕ) : Type 0 where
+      pub rest : OnlyLink old new
+      pub cells : LosesMore old.state.link.cells new.state.link.cells id which n
+      pub log : new.state.link.log ≡ old.state.link.log
+      pub none : said ≡ []
+
+    -- an endorser was asked directly, where one has the id, and the line says what it answered
+    pub record DidRaw (answered : List ℕ → Type 0) : Type 0 where
+      pub rest : OnlyLink old new
+      pub line : IfSaid said answered
+      pub few : length said ≤ 1
+
+    -- what a line made of the run, and what it printed
+    abbrev pub DidLine : Command → Type 0
+    DidLine (Genesis ids) = DidGenesis ids
+    DidLine (Plain request) = DidRequest request
+    DidLine Restart = Restarted (world_of old) (world_of new) × (said ≡ [])
+    DidLine (Begin op request) = DidBegin request
+    DidLine (Step op n) = Stepped old new × (said ≡ [])
+    DidLine (Finish op) = Told old new said
+    DidLine (Retry op) = Told old new said
+    DidLine (LoseRequest id n) = DidLose id losses.Request n
+    DidLine (LoseReply id n) = DidLose id losses.Reply n
+    DidLine (StoreFail n) = FailsMore old new n × (said ≡ [])
+    DidLine (StoreHide label height) = Lies old new (lies.Hide (row_at old new label height)) × (said ≡ [])
+    DidLine (StoreStale label height from) = Lies old new (lies.Stale (row_at old new label height) (row_at old new label from)) × (said ≡ [])
+    DidLine (StoreFork label height) = Lies old new (lies.Fork (row_at old new label height)) × (said ≡ [])
+    DidLine StoreHonest = EndsLies old new × (said ≡ [])
+    DidLine (RawAppend id label height payload number) = DidRaw (AppendedRaw key left size signs fit old.state new.state.link id (handle_for (world_of old).labels label) height (nonce number) payload)
+    DidLine (RawLatest id label number) = DidRaw (AnsweredRaw key left size signs fit old.state.link new.state.link id (Latest (handle_for (world_of old).labels label) (nonce number)))
+    DidLine (RawShow id label) = DidRaw (AnsweredRaw key left size signs fit old.state.link new.state.link id (Show (handle_for (world_of old).labels label)))
+    DidLine (RawFinalize id ids) = ⊥
+    DidLine (Offer op ids) = Told old new said
+    DidLine (Forge op count ids) = Told old new said
+    DidLine End = (new ≡ old) × (said ≡ [])
+
+  -- the lines were run one after the other, each on what came of those before, and these lines were printed
+  abbrev pub Runs : List Command → Running (CellBank S C) C → Running (CellBank S C) C → List (List ℕ) → Type 0
+  Runs [] old new printed = (new ≡ old) × (printed ≡ [])
+  Runs (command ∷ commands) old new printed =
+      (middle : Running (CellBank S C) C) × (said : List (List ℕ)) × (rest : List (List ℕ)) × DidLine old middle said command × Runs commands middle new rest × (printed ≡ said ++ rest)
