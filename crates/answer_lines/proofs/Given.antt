@@ -26,7 +26,7 @@ use Rattle.client_acts.specs.Taking.{IsUnbegun}
 use Rattle.client_acts.specs.Taking.{Took as ClientTook}
 use Rattle.answer_lines.specs.Draws.{DrewEntry, DrewRead}
 use Rattle.answer_lines.specs.Taken.{IsQuiet, Sides, Took, latest_line, newest_line, taken_line}
-use Rattle.answer_lines.specs.Giving.{Gave, count_by}
+use Rattle.answer_lines.specs.Giving.{Gave, OnlyLearned, count_by}
 
 -- ---- an entry without its room
 
@@ -140,6 +140,17 @@ module _ {S L C : Type 0} (accepts : C → Accepts) (store_view : S → StoreVie
   pub same_checker : {A : Type 0} (taken : Result A TakeFault) (place calls : ℕ) (view : List ℕ) (act : Option ReplyFault → Act) (P : ClientPass C → ClientPass C → Type 0)
       → ClientTook accepts store_view link_view old new before after place calls view taken act P → after.checker ≡ before.checker
   same_checker taken place calls view act P took = learned taken took.from took.to view took.learns
+
+  only_views : {A : Type 0} (taken : Result A TakeFault) (from to : ClientPass C) (view : List ℕ)
+      → Learns accepts store_view link_view before after from to view ⊎ IsUnbegun old new before after taken → OnlyLearned accepts store_view link_view before after
+  only_views taken from to view (inl learns) =
+      known_or_not (is_known from.chain.configs view) (λ known. inl (learns.known known).0) (λ unknown. let asked = learns.unknown unknown in inr (length from.chain.configs, asked.0, asked.1))
+  only_views taken from to view (inr unbegun) = inl unbegun.2
+
+  -- whatever the client learned, it was by views
+  pub only_learned : {A : Type 0} (taken : Result A TakeFault) (place calls : ℕ) (view : List ℕ) (act : Option ReplyFault → Act) (P : ClientPass C → ClientPass C → Type 0)
+      → ClientTook accepts store_view link_view old new before after place calls view taken act P → OnlyLearned accepts store_view link_view before after
+  only_learned taken place calls view act P took = only_views taken took.from took.to view took.learns
 
   -- the line of a reply that was checked
   pub gave_line : {T E : Type 0} (line : Result T E) (bytes : T → List ℕ) (place calls : ℕ) (view : List ℕ) (taken : Result (Unit {0}) TakeFault) (act named : Option ReplyFault → Act) (P : ClientPass C → ClientPass C → Type 0)

@@ -10,7 +10,7 @@ ghost use Rattle.client_pass.specs.declared.take_fault.TakeFault.TheVariants.{Ag
 ghost use Rattle.client_pass.specs.Answers.{answer_by};
 ghost use Rattle.client_acts.specs.ClientActs.{StaysOn};
 ghost use Rattle.answer_lines.specs.Draws.{DrewEntry, DrewRead, IsOpen};
-ghost use Rattle.answer_lines.specs.Giving.{Gave, conflict_in, count_by};
+ghost use Rattle.answer_lines.specs.Giving.{Gave, OnlyLearned, conflict_in, count_by};
 ghost use Rattle.answer_lines.specs.Taken.{TookAt, TookLatest, TookOwn, latest_line, newest_line, taken_line};
 
 use chain_block::Entry;
@@ -64,6 +64,8 @@ pub fn give_own<S: Store, L: Link, C: Checker, K: RunName>(
     ensures took { IfOk result (λ line. Gave acts.old acts.new client coordinator.old coordinator.new (λ sides. TookOwn K.accepts sides label.now (bare entry.now) (stood answer) line.bytes)) }
     ensures stays { StaysOn acts.old acts.new }
     ensures checker { coordinator.new.checker ≡ coordinator.old.checker }
+    // Whatever was asked on the way to the check was asked for views.
+    ensures learned { OnlyLearned C.accepts S.view L.view coordinator.old coordinator.new }
 {
     clients_stay_on::<C>();
     match answer {
@@ -117,6 +119,8 @@ fn give_own_refusal<S: Store, L: Link, C: Checker, K: RunName>(
     ensures took { IfOk result (λ line. Gave acts.old acts.new client coordinator.old coordinator.new (λ sides. TookOwn K.accepts sides label.now (bare entry.now) (Refused (cause_of refusal.now)) line.bytes)) }
     ensures stays { StaysOn acts.old acts.new }
     ensures checker { coordinator.new.checker ≡ coordinator.old.checker }
+    // Whatever was asked on the way to the check was asked for views.
+    ensures learned { OnlyLearned C.accepts S.view L.view coordinator.old coordinator.new }
 {
     clients_stay_on::<C>();
     match conflict_in(refusal) {
@@ -146,6 +150,8 @@ pub fn give_at<S: Store, L: Link, C: Checker, K: RunName>(
     ensures took { IfOk result (λ line. Gave acts.old acts.new client coordinator.old coordinator.new (λ sides. TookAt K.accepts sides label.now handle.now height (stood answer) line.bytes)) }
     ensures stays { StaysOn acts.old acts.new }
     ensures checker { coordinator.new.checker ≡ coordinator.old.checker }
+    // Whatever was asked on the way to the check was asked for views.
+    ensures learned { OnlyLearned C.accepts S.view L.view coordinator.old coordinator.new }
 {
     clients_stay_on::<C>();
     match answer {
@@ -201,6 +207,8 @@ pub fn give_latest<S: Store, L: Link, C: Checker, K: RunName>(
     ensures took { IfOk result (λ line. Gave acts.old acts.new client coordinator.old coordinator.new (λ sides. TookLatest K.accepts sides label.now handle.now nonce.now (replied answer) line.bytes)) }
     ensures stays { StaysOn acts.old acts.new }
     ensures checker { coordinator.new.checker ≡ coordinator.old.checker }
+    // Whatever was asked on the way to the check was asked for views.
+    ensures learned { OnlyLearned C.accepts S.view L.view coordinator.old coordinator.new }
 {
     clients_stay_on::<C>();
     match answer {

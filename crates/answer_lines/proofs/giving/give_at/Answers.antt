@@ -9,7 +9,7 @@ use Rattle.reply_lines.specs.Causes.{payload_of}
 use Rattle.reply_lines.specs.Lines.{ok_line}
 use Rattle.answer_lines.specs.Giving.{Gave}
 use Rattle.answer_lines.specs.Taken.{TookAt}
-use Rattle.answer_lines.proofs.Given.{found, gave_line, same_checker}
+use Rattle.answer_lines.proofs.Given.{found, gave_line, only_learned, same_checker}
 use Rattle.answer_lines.proofs.Refused.{gave_refusal}
 use Rattle.answer_lines.proofs.giving.give_at.Goals as goal
 
@@ -44,4 +44,9 @@ returns-in-Err-clause-took g c =
 pub returns-in_ok-accepted-in-Ok-clause-checker : goal.returns-in_ok-accepted-in-Ok-clause-checker
 returns-in_ok-accepted-in-Ok-clause-checker g c =
     same_checker g.C.Checker.accepts g.S.Store.view g.L.Link.view c.args.acts.now c.take_at-taken.new.self c.args.coordinator.now c.take_at-taken.new.coordinator
+    c.take_at-taken.result c.args.client c.args.calls (view_of c.in-Ok.standing.receipt.statement) (At c.args.handle.now c.args.height c.in-Ok.standing) _ c.take_at-taken.ensures
+
+pub returns-in_ok-accepted-in-Ok-clause-learned : goal.returns-in_ok-accepted-in-Ok-clause-learned
+returns-in_ok-accepted-in-Ok-clause-learned g c =
+    only_learned g.C.Checker.accepts g.S.Store.view g.L.Link.view c.args.acts.now c.take_at-taken.new.self c.args.coordinator.now c.take_at-taken.new.coordinator
     c.take_at-taken.result c.args.client c.args.calls (view_of c.in-Ok.standing.receipt.statement) (At c.args.handle.now c.args.height c.in-Ok.standing) _ c.take_at-taken.ensures

@@ -12,7 +12,7 @@ use Rattle.client_pass.specs.Act.{Latest}
 use Rattle.client_pass.specs.ClientList.{IsForRead}
 use Rattle.answer_lines.specs.Giving.{Gave, count_by}
 use Rattle.answer_lines.specs.Taken.{Took, TookLatest, latest_line}
-use Rattle.answer_lines.proofs.Given.{drew_read, gave_drawn, gave_latest_line, same_checker}
+use Rattle.answer_lines.proofs.Given.{drew_read, gave_drawn, gave_latest_line, only_learned, same_checker}
 use Rattle.answer_lines.proofs.Refused.{gave_refusal}
 use Rattle.answer_lines.proofs.giving.give_latest.Goals as goal
 
@@ -59,4 +59,9 @@ returns-in-Err-clause-stays g c = c.clients_stay_on.ensures.same c.args.acts.now
 pub returns-in-Ok-clause-checker : goal.returns-in-Ok-clause-checker
 returns-in-Ok-clause-checker g c =
     same_checker g.C.Checker.accepts g.S.Store.view g.L.Link.view c.args.acts.now c.take_latest-taken.new.self c.args.coordinator.now c.take_latest-taken.new.coordinator
+    c.take_latest-taken.result c.args.client c.args.calls (view_of c.in-Ok.reply.receipt.statement) (Latest c.args.draw c.args.handle.now c.in-Ok.reply) _ c.take_latest-taken.ensures
+
+pub returns-in-Ok-clause-learned : goal.returns-in-Ok-clause-learned
+returns-in-Ok-clause-learned g c =
+    only_learned g.C.Checker.accepts g.S.Store.view g.L.Link.view c.args.acts.now c.take_latest-taken.new.self c.args.coordinator.now c.take_latest-taken.new.coordinator
     c.take_latest-taken.result c.args.client c.args.calls (view_of c.in-Ok.reply.receipt.statement) (Latest c.args.draw c.args.handle.now c.in-Ok.reply) _ c.take_latest-taken.ensures

@@ -10,7 +10,7 @@ use Rattle.reply_lines.specs.Causes.{payload_of}
 use Rattle.reply_lines.specs.Lines.{ok_line}
 use Rattle.answer_lines.specs.Giving.{Gave}
 use Rattle.answer_lines.specs.Taken.{Took, TookOwn, taken_line}
-use Rattle.answer_lines.proofs.Given.{bare_height, bare_payload, drew_entry, gave_drawn, gave_line, same_checker, within}
+use Rattle.answer_lines.proofs.Given.{bare_height, bare_payload, drew_entry, gave_drawn, gave_line, only_learned, same_checker, within}
 use Rattle.answer_lines.proofs.giving.give_own.Goals as goal
 
 pub returns-in_ok-accepted-in-Ok-clause-took : goal.returns-in_ok-accepted-in-Ok-clause-took
@@ -52,4 +52,9 @@ give_own_refusal-requires-clause-client g c = within c.args.acts.now.clients c.a
 pub returns-in_ok-accepted-in-Ok-clause-checker : goal.returns-in_ok-accepted-in-Ok-clause-checker
 returns-in_ok-accepted-in-Ok-clause-checker g c =
     same_checker g.C.Checker.accepts g.S.Store.view g.L.Link.view c.args.acts.now c.take_own-taken.new.self c.args.coordinator.now c.take_own-taken.new.coordinator
+    c.take_own-taken.result c.args.client c.args.calls (view_of c.in-Ok.standing.receipt.statement) (Append c.args.draw c.in-Ok.standing) _ c.take_own-taken.ensures
+
+pub returns-in_ok-accepted-in-Ok-clause-learned : goal.returns-in_ok-accepted-in-Ok-clause-learned
+returns-in_ok-accepted-in-Ok-clause-learned g c =
+    only_learned g.C.Checker.accepts g.S.Store.view g.L.Link.view c.args.acts.now c.take_own-taken.new.self c.args.coordinator.now c.take_own-taken.new.coordinator
     c.take_own-taken.result c.args.client c.args.calls (view_of c.in-Ok.standing.receipt.statement) (Append c.args.draw c.in-Ok.standing) _ c.take_own-taken.ensures
