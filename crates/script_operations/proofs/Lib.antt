@@ -1,2 +1,6 @@
 mod Tasks
 mod Staying
+mod Leading
+mod Ended
+mod Named
+mod Answering

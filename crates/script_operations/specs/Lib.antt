@@ -1,2 +1,5 @@
 pub mod Task
+pub mod Operations
 pub mod Stepping
+pub mod Ending
+pub mod Giving

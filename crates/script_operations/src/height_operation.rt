@@ -1,8 +1,13 @@
 // An operation by which a client reads a ledger at a height.
-ghost use Rattle.std.specs.Prelude.{◌≡◌, ◌<◌, ◌^◌, true, false, IfOk, OnOk};
-ghost use Rattle.op_entry.specs.State.{calls_left, is_live};
+ghost use Rattle.std.specs.Prelude.{◌≡◌, ◌<◌, ◌^◌, ℕ, List, Some, IfOk, MatchOption};
 ghost use Rattle.client_acts.specs.ClientActs.{StaysOn};
-ghost use Rattle.script_operations.specs.Stepping.{OnlyOutside};
+ghost use Rattle.endorser_cell.specs.CellBank.{bank_view};
+ghost use Rattle.op_entry.specs.Sound.{Sound};
+ghost use Rattle.op_entry.specs.State.{answer_of as outcome_of, is_live};
+ghost use Rattle.script_operations.specs.Ending.{CameTo, EndsEntry};
+ghost use Rattle.script_operations.specs.Giving.{AsksAnew, GivesEnd};
+ghost use Rattle.script_operations.specs.Operations.{Closed, IsFresh, height_progress};
+ghost use Rattle.script_operations.specs.Stepping.{GoesFor, Steps};
 ghost use Rattle.script_operations.specs.Task.{HasDraw, Height};
 
 use answer_lines::give_at;
@@ -12,7 +17,7 @@ use nim_base::{Digest, NoMemory, Text};
 use op_entry::AtOp;
 use port::{Link, Refusal, Service, Standing, Store};
 use roster_bank::{RosterBank, RunName};
-use seal::{Checker, Scheme};
+use seal::{Checker, Scheme, Signer};
 use std::alloc::Global;
 use view_ledger::ViewChain;
 
@@ -50,7 +55,9 @@ impl HeightOperation {
         chain: &ViewChain,
     ) -> Result<HeightOperation, NoMemory>
         requires { height < 2 ^ 32 }
-        ensures { IfOk result (λ begun. Height begun.asked.client begun.asked.handle begun.asked.height ≡ Height client handle height) }
+        ensures task { IfOk result (λ begun. Height begun.asked.client begun.asked.handle begun.asked.height ≡ Height client handle height) }
+        ensures label { IfOk result (λ begun. begun.asked.label.bytes ≡ label.now) }
+        ensures fresh { IfOk result (λ begun. IsFresh chain.now (Height client handle height) (height_progress begun.running)) }
     {
         let label = Text::of(alloc, label)?;
         let run = AtOp::new(chain.copy(alloc)?, handle, height);
@@ -65,6 +72,7 @@ impl HeightOperation {
         })
     }
 
+    /// Makes up to so many calls, where it is open.
     pub(crate) fn step<S: Store, L: Link, C: Checker>(
         &mut self,
         alloc: Global,
@@ -72,10 +80,12 @@ impl HeightOperation {
         coordinator: &mut Coordinator<S, L, C>,
     )
         ensures asked { self.new.asked ≡ self.old.asked }
-        ensures outside { OnlyOutside coordinator.old coordinator.new }
+        ensures steps { Steps S.view L.view coordinator.old coordinator.new (C.accepts coordinator.old.checker) (height_progress self.old.running) (height_progress self.new.running) n }
     {
-        if let Some(op) = &mut self.running {
-            steps(alloc, n, op, coordinator);
+        if let Some(op) = self.running.take() {
+            let mut op = op;
+            steps(alloc, n, &mut op, coordinator);
+            self.running = Some(op);
         }
     }
 
@@ -88,8 +98,12 @@ impl HeightOperation {
     ) -> Result<Option<Text>, NoMemory>
         requires { HasDraw acts.old.clients (Height self.old.asked.client self.old.asked.handle self.old.asked.height) }
         ensures asked { self.new.asked ≡ self.old.asked }
+        ensures closed { height_progress self.new.running ≡ Closed }
         ensures stays { StaysOn acts.old acts.new }
         ensures checker { coordinator.new.checker ≡ coordinator.old.checker }
+        ensures gives { (name : List ℕ) → IfOk result (λ line. MatchOption line ((height_progress self.old.running ≡ Closed) × (acts.new ≡ acts.old) × (coordinator.new ≡ coordinator.old)) (λ line.
+            GivesEnd G.Checker.accepts S.view (bank_view G.Signer.key_of G.Signer.left_of G.Checker.accepts) K.accepts name acts.old acts.new coordinator.old coordinator.new
+            (Height self.old.asked.client self.old.asked.handle self.old.asked.height) self.old.asked.label.bytes (height_progress self.old.running) line.bytes)) }
     {
         clients_stay_on::<G::Checker>();
         match self.running.take() {
@@ -104,6 +118,7 @@ impl HeightOperation {
     /// Closes it.
     pub(crate) fn close(&mut self)
         ensures asked { self.new.asked ≡ self.old.asked }
+        ensures closed { height_progress self.new.running ≡ Closed }
     {
         self.running = None;
     }
@@ -121,6 +136,8 @@ impl HeightAsked {
         requires { HasDraw acts.old.clients (Height self.now.client self.now.handle self.now.height) }
         ensures stays { StaysOn acts.old acts.new }
         ensures checker { coordinator.new.checker ≡ coordinator.old.checker }
+        ensures gives { (name : List ℕ) → IfOk result (λ line. GivesEnd G.Checker.accepts S.view (bank_view G.Signer.key_of G.Signer.left_of G.Checker.accepts) K.accepts name acts.old acts.new coordinator.old coordinator.new
+            (Height self.now.client self.now.handle self.now.height) self.now.label.bytes (height_progress (Some op)) line.bytes) }
     {
         let answer = answer_of(alloc, op, coordinator);
         let calls = coordinator.link().log().len();
@@ -147,6 +164,8 @@ impl HeightAsked {
         requires { HasDraw acts.old.clients (Height self.now.client self.now.handle self.now.height) }
         ensures stays { StaysOn acts.old acts.new }
         ensures checker { coordinator.new.checker ≡ coordinator.old.checker }
+        ensures asks { (name : List ℕ) → IfOk result (λ line. AsksAnew G.Checker.accepts S.view (bank_view G.Signer.key_of G.Signer.left_of G.Checker.accepts) K.accepts name acts.old acts.new coordinator.old coordinator.new
+            (Height self.now.client self.now.handle self.now.height) self.now.label.bytes line.bytes) }
     {
         let answer = coordinator.at(alloc, &self.handle, self.height);
         let calls = coordinator.link().log().len();
@@ -171,7 +190,7 @@ fn steps<S: Store, L: Link, C: Checker>(
     op: &mut AtOp,
     coordinator: &mut Coordinator<S, L, C>,
 )
-    ensures outside { OnlyOutside coordinator.old coordinator.new }
+    ensures { GoesFor S.view L.view coordinator.old coordinator.new (Sound (C.accepts coordinator.old.checker)) is_live op.old op.new n }
 {
     for _ in 0..n {
         if !coordinator.step_at(alloc, op) {
@@ -186,7 +205,7 @@ fn answer_of<S: Store, L: Link, C: Checker>(
     op: AtOp,
     coordinator: &mut Coordinator<S, L, C>,
 ) -> Result<Standing, Refusal>
-    ensures outside { OnlyOutside coordinator.old coordinator.new }
+    ensures { CameTo S.view L.view coordinator.old coordinator.new (λ events. EndsEntry (C.accepts coordinator.old.checker) op events (outcome_of result)) }
 {
     let mut op = op;
     while coordinator.step_at(alloc, &mut op) {}

@@ -1,8 +1,15 @@
 // An operation by which a client reads the newest row of a ledger.
-ghost use Rattle.std.specs.Prelude.{◌≡◌, ◌<◌, true, false, IfOk, IfSome, OnOk};
-ghost use Rattle.op_latest.specs.LatestState.{calls_left, is_live};
+ghost use Rattle.std.specs.Prelude.{◌≡◌, true, Some, IfOk, IfSome, IfNone, MatchOption};
+ghost use Rattle.answer_lines.specs.Giving.{OnlyLearned};
 ghost use Rattle.client_acts.specs.ClientActs.{StaysOn};
-ghost use Rattle.script_operations.specs.Stepping.{OnlyOutside};
+ghost use Rattle.endorser_cell.specs.CellBank.{bank_view};
+ghost use Rattle.op_latest.specs.LatestSound.{LatestSound};
+ghost use Rattle.op_latest.specs.LatestState.{is_live, outcome_of};
+ghost use Rattle.port.specs.Service.{Replied, replied};
+ghost use Rattle.script_operations.specs.Ending.{CameTo, EndsLatest};
+ghost use Rattle.script_operations.specs.Giving.{Asks, Given, GivesEnd};
+ghost use Rattle.script_operations.specs.Operations.{Closed, IsFresh, is_open, newest_progress};
+ghost use Rattle.script_operations.specs.Stepping.{GoesFor, Steps};
 ghost use Rattle.script_operations.specs.Task.{HasDraw, Newest};
 
 use crate::reading::Reading;
@@ -14,7 +21,7 @@ use op_entry::LatestOp;
 use port::{LatestReply, Link, Refusal, Service, Store};
 use reply_lines::done_line;
 use roster_bank::{RosterBank, RunName};
-use seal::{Checker, Scheme};
+use seal::{Checker, Scheme, Signer};
 use std::alloc::Global;
 use view_ledger::ViewChain;
 
@@ -53,7 +60,9 @@ impl NewestOperation {
         nonce: Nonce,
         chain: &ViewChain,
     ) -> Result<NewestOperation, NoMemory>
-        ensures { IfOk result (λ begun. Newest begun.asked.client begun.asked.draw begun.asked.handle begun.asked.nonce ≡ Newest client draw handle nonce) }
+        ensures task { IfOk result (λ begun. Newest begun.asked.client begun.asked.draw begun.asked.handle begun.asked.nonce ≡ Newest client draw handle nonce) }
+        ensures label { IfOk result (λ begun. begun.asked.label.bytes ≡ label.now) }
+        ensures fresh { IfOk result (λ begun. IsFresh chain.now (Newest client draw handle nonce) (newest_progress begun.running)) }
     {
         let label = Text::of(alloc, label)?;
         let run = LatestOp::new(chain.copy(alloc)?, handle, nonce);
@@ -69,6 +78,7 @@ impl NewestOperation {
         })
     }
 
+    /// Makes up to so many calls, where it is open.
     pub(crate) fn step<S: Store, L: Link, C: Checker>(
         &mut self,
         alloc: Global,
@@ -76,10 +86,12 @@ impl NewestOperation {
         coordinator: &mut Coordinator<S, L, C>,
     )
         ensures asked { self.new.asked ≡ self.old.asked }
-        ensures outside { OnlyOutside coordinator.old coordinator.new }
+        ensures steps { Steps S.view L.view coordinator.old coordinator.new (C.accepts coordinator.old.checker) (newest_progress self.old.running) (newest_progress self.new.running) n }
     {
-        if let Some(op) = &mut self.running {
-            steps(alloc, n, op, coordinator);
+        if let Some(op) = self.running.take() {
+            let mut op = op;
+            steps(alloc, n, &mut op, coordinator);
+            self.running = Some(op);
         }
     }
 
@@ -93,14 +105,17 @@ impl NewestOperation {
     ) -> Result<Option<Text>, NoMemory>
         requires { HasDraw acts.old.clients (Newest self.old.asked.client self.old.asked.draw self.old.asked.handle self.old.asked.nonce) }
         ensures asked { self.new.asked ≡ self.old.asked }
+        ensures closed { newest_progress self.new.running ≡ Closed }
         ensures stays { StaysOn acts.old acts.new }
         ensures checker { coordinator.new.checker ≡ coordinator.old.checker }
+        ensures gives { IfOk result (λ line. MatchOption line ((newest_progress self.old.running ≡ Closed) × (acts.new ≡ acts.old) × (coordinator.new ≡ coordinator.old)) (λ line.
+            GivesEnd G.Checker.accepts S.view (bank_view G.Signer.key_of G.Signer.left_of G.Checker.accepts) K.accepts name.now acts.old acts.new coordinator.old coordinator.new
+            (Newest self.old.asked.client self.old.asked.draw self.old.asked.handle self.old.asked.nonce) self.old.asked.label.bytes (newest_progress self.old.running) line.bytes)) }
     {
         clients_stay_on::<G::Checker>();
         match self.running.take() {
             Some(op) => {
-                let answer = answer_of(alloc, op, coordinator);
-                let line = self.asked.give(alloc, name, acts, coordinator, answer)?;
+                let line = self.asked.end(alloc, name, op, acts, coordinator)?;
                 Ok(Some(line))
             }
             None => Ok(None),
@@ -118,8 +133,12 @@ impl NewestOperation {
     ) -> Result<Option<Text>, NoMemory>
         requires { HasDraw acts.old.clients (Newest self.old.asked.client self.old.asked.draw self.old.asked.handle self.old.asked.nonce) }
         ensures asked { self.new.asked ≡ self.old.asked }
+        ensures closed { newest_progress self.new.running ≡ Closed }
         ensures stays { StaysOn acts.old acts.new }
         ensures checker { coordinator.new.checker ≡ coordinator.old.checker }
+        ensures learned { OnlyLearned G.Checker.accepts S.view (bank_view G.Signer.key_of G.Signer.left_of G.Checker.accepts) coordinator.old coordinator.new }
+        ensures given { IfOk result (λ line. MatchOption line ((newest_progress self.old.running ≡ Closed) × (acts.new ≡ acts.old) × (coordinator.new ≡ coordinator.old)) (λ line.
+            (is_open (newest_progress self.old.running) ≡ true) × Given K.accepts name.now (Newest self.old.asked.client self.old.asked.draw self.old.asked.handle self.old.asked.nonce) self.old.asked.label.bytes acts.old acts.new coordinator.old coordinator.new (Replied reply) line.bytes)) }
     {
         clients_stay_on::<G::Checker>();
         if self.running.is_none() {
@@ -132,7 +151,9 @@ impl NewestOperation {
 
     /// Whose read it is, where it is open.
     pub(crate) fn reading(&self) -> Option<Reading>
-        ensures { IfSome result (λ reading. Newest reading.client self.now.asked.draw reading.handle reading.nonce ≡ Newest self.now.asked.client self.now.asked.draw self.now.asked.handle self.now.asked.nonce) }
+        ensures some { IfSome result (λ reading. (is_open (newest_progress self.now.running) ≡ true)
+            × (Newest reading.client self.now.asked.draw reading.handle reading.nonce ≡ Newest self.now.asked.client self.now.asked.draw self.now.asked.handle self.now.asked.nonce)) }
+        ensures none { IfNone result (newest_progress self.now.running ≡ Closed) }
     {
         match &self.running {
             Some(_) => Some(Reading {
@@ -147,6 +168,7 @@ impl NewestOperation {
     /// Closes it.
     pub(crate) fn close(&mut self)
         ensures asked { self.new.asked ≡ self.old.asked }
+        ensures closed { newest_progress self.new.running ≡ Closed }
     {
         self.running = None;
     }
@@ -165,6 +187,8 @@ impl NewestAsked {
         requires { HasDraw acts.old.clients (Newest self.now.client self.now.draw self.now.handle self.now.nonce) }
         ensures stays { StaysOn acts.old acts.new }
         ensures checker { coordinator.new.checker ≡ coordinator.old.checker }
+        ensures learned { OnlyLearned G.Checker.accepts S.view (bank_view G.Signer.key_of G.Signer.left_of G.Checker.accepts) coordinator.old coordinator.new }
+        ensures given { IfOk result (λ line. Given K.accepts name.now (Newest self.now.client self.now.draw self.now.handle self.now.nonce) self.now.label.bytes acts.old acts.new coordinator.old coordinator.new (replied answer) line.bytes) }
     {
         clients_stay_on::<G::Checker>();
         if acts.is_answered(self.client, self.draw) {
@@ -185,6 +209,25 @@ impl NewestAsked {
         )
     }
 
+    /// Runs it to its answer, which the client is given.
+    fn end<S: Store, G: Scheme, K: RunName>(
+        &self,
+        alloc: Global,
+        name: &[u8],
+        op: LatestOp,
+        acts: &mut ClientActs<'_, G::Checker, K>,
+        coordinator: &mut Coordinator<S, RosterBank<'_, G, K>, G::Checker>,
+    ) -> Result<Text, NoMemory>
+        requires { HasDraw acts.old.clients (Newest self.now.client self.now.draw self.now.handle self.now.nonce) }
+        ensures stays { StaysOn acts.old acts.new }
+        ensures checker { coordinator.new.checker ≡ coordinator.old.checker }
+        ensures gives { IfOk result (λ line. GivesEnd G.Checker.accepts S.view (bank_view G.Signer.key_of G.Signer.left_of G.Checker.accepts) K.accepts name.now acts.old acts.new coordinator.old coordinator.new
+            (Newest self.now.client self.now.draw self.now.handle self.now.nonce) self.now.label.bytes (newest_progress (Some op)) line.bytes) }
+    {
+        let answer = answer_of(alloc, op, coordinator);
+        self.give(alloc, name, acts, coordinator, answer)
+    }
+
     /// Asks the coordinator for it anew, unless its client has an accepted reply already.
     pub(crate) fn retry<S: Store, G: Scheme, K: RunName>(
         &self,
@@ -196,13 +239,27 @@ impl NewestAsked {
         requires { HasDraw acts.old.clients (Newest self.now.client self.now.draw self.now.handle self.now.nonce) }
         ensures stays { StaysOn acts.old acts.new }
         ensures checker { coordinator.new.checker ≡ coordinator.old.checker }
+        ensures asks { IfOk result (λ line. Asks G.Checker.accepts S.view (bank_view G.Signer.key_of G.Signer.left_of G.Checker.accepts) K.accepts name.now acts.old acts.new coordinator.old coordinator.new
+            (Newest self.now.client self.now.draw self.now.handle self.now.nonce) self.now.label.bytes line.bytes) }
     {
         clients_stay_on::<G::Checker>();
         if acts.is_answered(self.client, self.draw) {
             return done_line(alloc, name);
         }
         let answer = coordinator.latest(alloc, &self.handle, &self.nonce);
-        self.give(alloc, name, acts, coordinator, answer)
+        let calls = coordinator.link().log().len();
+        give_latest(
+            alloc,
+            acts,
+            coordinator,
+            calls,
+            self.client,
+            self.draw,
+            self.label.bytes(),
+            &self.handle,
+            &self.nonce,
+            answer,
+        )
     }
 }
 
@@ -213,7 +270,7 @@ fn steps<S: Store, L: Link, C: Checker>(
     op: &mut LatestOp,
     coordinator: &mut Coordinator<S, L, C>,
 )
-    ensures outside { OnlyOutside coordinator.old coordinator.new }
+    ensures { GoesFor S.view L.view coordinator.old coordinator.new (LatestSound (C.accepts coordinator.old.checker)) is_live op.old op.new n }
 {
     for _ in 0..n {
         if !coordinator.step_latest(alloc, op) {
@@ -228,7 +285,7 @@ fn answer_of<S: Store, L: Link, C: Checker>(
     op: LatestOp,
     coordinator: &mut Coordinator<S, L, C>,
 ) -> Result<LatestReply, Refusal>
-    ensures outside { OnlyOutside coordinator.old coordinator.new }
+    ensures { CameTo S.view L.view coordinator.old coordinator.new (λ events. EndsLatest (C.accepts coordinator.old.checker) op events (outcome_of result)) }
 {
     let mut op = op;
     while coordinator.step_latest(alloc, &mut op) {}

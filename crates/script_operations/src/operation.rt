@@ -1,8 +1,12 @@
 // An operation of any kind.
-ghost use Rattle.std.specs.Prelude.{◌≡◌, ℕ, IfSome};
+ghost use Rattle.std.specs.Prelude.{◌≡◌, ℕ, List, true, IfOk, IfSome, IfNone, MatchOption};
+ghost use Rattle.answer_lines.specs.Giving.{OnlyLearned};
 ghost use Rattle.client_acts.specs.ClientActs.{StaysOn};
-ghost use Rattle.script_operations.specs.Stepping.{OnlyOutside};
-ghost use Rattle.script_operations.specs.Task.{HasDraw, Newest, task_of};
+ghost use Rattle.endorser_cell.specs.CellBank.{bank_view};
+ghost use Rattle.script_operations.specs.Giving.{Asks, GivesEnd, TakesReply};
+ghost use Rattle.script_operations.specs.Operations.{Closed, IsOpenRead, Progress, at_progress, begun_of, is_open};
+ghost use Rattle.script_operations.specs.Stepping.{Steps};
+ghost use Rattle.script_operations.specs.Task.{HasDraw, Newest};
 
 use crate::height_operation::HeightOperation;
 use crate::newest_operation::NewestOperation;
@@ -13,7 +17,7 @@ use coordinator::Coordinator;
 use nim_base::{NoMemory, Text};
 use port::{LatestReply, Link, Store};
 use roster_bank::{RosterBank, RunName};
-use seal::{Checker, Scheme};
+use seal::{Checker, Scheme, Signer};
 use std::alloc::Global;
 
 /// An operation of a client.
@@ -41,8 +45,8 @@ impl Operation {
         n: u64,
         coordinator: &mut Coordinator<S, L, C>,
     )
-        ensures task { task_of self.new ≡ task_of self.old }
-        ensures outside { OnlyOutside coordinator.old coordinator.new }
+        ensures same { begun_of self.new ≡ at_progress (begun_of self.old) (begun_of self.new).progress }
+        ensures steps { Steps S.view L.view coordinator.old coordinator.new (C.accepts coordinator.old.checker) (begun_of self.old).progress (begun_of self.new).progress n }
     {
         match self {
             Operation::Own(operation) => operation.step(alloc, n, coordinator),
@@ -59,10 +63,12 @@ impl Operation {
         acts: &mut ClientActs<'_, G::Checker, K>,
         coordinator: &mut Coordinator<S, RosterBank<'_, G, K>, G::Checker>,
     ) -> Result<Option<Text>, NoMemory>
-        requires { HasDraw acts.old.clients (task_of self.old) }
-        ensures task { task_of self.new ≡ task_of self.old }
+        requires { HasDraw acts.old.clients (begun_of self.old).task }
+        ensures closed { begun_of self.new ≡ at_progress (begun_of self.old) Closed }
         ensures stays { StaysOn acts.old acts.new }
         ensures checker { coordinator.new.checker ≡ coordinator.old.checker }
+        ensures gives { IfOk result (λ line. MatchOption line (((begun_of self.old).progress ≡ Closed) × (acts.new ≡ acts.old) × (coordinator.new ≡ coordinator.old)) (λ line.
+            GivesEnd G.Checker.accepts S.view (bank_view G.Signer.key_of G.Signer.left_of G.Checker.accepts) K.accepts name.now acts.old acts.new coordinator.old coordinator.new (begun_of self.old).task (begun_of self.old).label (begun_of self.old).progress line.bytes)) }
     {
         match self {
             Operation::Own(operation) => operation.finish(alloc, name, acts, coordinator),
@@ -79,9 +85,10 @@ impl Operation {
         acts: &mut ClientActs<'_, G::Checker, K>,
         coordinator: &mut Coordinator<S, RosterBank<'_, G, K>, G::Checker>,
     ) -> Result<Text, NoMemory>
-        requires { HasDraw acts.old.clients (task_of self.now) }
+        requires { HasDraw acts.old.clients (begun_of self.now).task }
         ensures stays { StaysOn acts.old acts.new }
         ensures checker { coordinator.new.checker ≡ coordinator.old.checker }
+        ensures asks { IfOk result (λ line. Asks G.Checker.accepts S.view (bank_view G.Signer.key_of G.Signer.left_of G.Checker.accepts) K.accepts name.now acts.old acts.new coordinator.old coordinator.new (begun_of self.now).task (begun_of self.now).label line.bytes) }
     {
         match self {
             Operation::Own(operation) => operation.asked.retry(alloc, name, acts, coordinator),
@@ -99,10 +106,13 @@ impl Operation {
         acts: &mut ClientActs<'_, G::Checker, K>,
         coordinator: &mut Coordinator<S, RosterBank<'_, G, K>, G::Checker>,
     ) -> Result<Option<Text>, NoMemory>
-        requires { HasDraw acts.old.clients (task_of self.old) }
-        ensures task { task_of self.new ≡ task_of self.old }
+        requires { HasDraw acts.old.clients (begun_of self.old).task }
         ensures stays { StaysOn acts.old acts.new }
         ensures checker { coordinator.new.checker ≡ coordinator.old.checker }
+        ensures learned { OnlyLearned G.Checker.accepts S.view (bank_view G.Signer.key_of G.Signer.left_of G.Checker.accepts) coordinator.old coordinator.new }
+        ensures given { IfOk result (λ line. MatchOption line ((IsOpenRead (begun_of self.old) → ⊥) × (begun_of self.new ≡ begun_of self.old) × (acts.new ≡ acts.old) × (coordinator.new ≡ coordinator.old)) (λ line.
+            (begun_of self.new ≡ at_progress (begun_of self.old) Closed) × TakesReply K.accepts name.now (begun_of self.old) acts.old acts.new coordinator.old coordinator.new reply line.bytes)) }
+        ensures task { (begun_of self.new).task ≡ (begun_of self.old).task }
     {
         clients_stay_on::<G::Checker>();
         match self {
@@ -113,7 +123,7 @@ impl Operation {
 
     /// Closes it.
     pub(crate) fn close(&mut self)
-        ensures task { task_of self.new ≡ task_of self.old }
+        ensures closed { begun_of self.new ≡ at_progress (begun_of self.old) Closed }
     {
         match self {
             Operation::Own(operation) => operation.close(),
@@ -124,7 +134,9 @@ impl Operation {
 
     /// Whose read of a newest row it is, where it is an open one.
     pub(crate) fn reading(&self) -> Option<Reading>
-        ensures { IfSome result (λ reading. (draw : ℕ) × (Newest reading.client draw reading.handle reading.nonce ≡ task_of self.now)) }
+        ensures some { IfSome result (λ reading. (draw : ℕ) × (label : List ℕ) × (progress : Progress) × (is_open progress ≡ true)
+            × (begun_of self.now ≡ record { task = Newest reading.client draw reading.handle reading.nonce; label = label; progress = progress })) }
+        ensures none { IfNone result (IsOpenRead (begun_of self.now) → ⊥) }
     {
         match self {
             Operation::Newest(operation) => operation.reading(),

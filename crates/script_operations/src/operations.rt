@@ -1,8 +1,12 @@
-ghost use Rattle.std.specs.Prelude.{◌≡◌, ◌<◌, ◌^◌, ◌++◌, ◌∷◌, [], ℕ, length, IfSome, OnOk, OnErr};
+ghost use Rattle.std.specs.Prelude.{◌≡◌, ◌≤◌, ◌<◌, ◌^◌, [], ℕ, List, Some, length, IfOk, IfSome, IfNone, OnOk, OnErr, MatchOption};
 ghost use Rattle.chain_block.specs.Entry.{IsWithinLimits, bare};
 ghost use Rattle.client_acts.specs.ClientActs.{StaysOn};
-ghost use Rattle.script_operations.specs.Stepping.{OnlyOutside};
-ghost use Rattle.script_operations.specs.Task.{AllHave, Height, IsAmong, Newest, Own, task_of};
+ghost use Rattle.endorser_cell.specs.CellBank.{bank_view};
+ghost use Rattle.name_map.specs.NameMap.{means};
+ghost use Rattle.script_operations.specs.Giving.{HasFinished, HasGiven, HasRetried, NoneReads};
+ghost use Rattle.script_operations.specs.Operations.{Begun, Closed, HasBegun, HasMore, IsOpen, NoneIsNamed, NoneIsOpen, Progress, at_progress, begun_of, tasks_of, with_begun};
+ghost use Rattle.script_operations.specs.Stepping.{StepsNamed};
+ghost use Rattle.script_operations.specs.Task.{AllHave, Height, Newest, Own};
 
 use crate::height_operation::HeightOperation;
 use crate::newest_operation::NewestOperation;
@@ -16,33 +20,26 @@ use name_map::NameMap;
 use nim_base::{Digest, NoMemory, Nonce, Text};
 use port::{LatestReply, Link, Store};
 use roster_bank::{RosterBank, RunName};
-use seal::{Checker, Scheme};
+use seal::{Checker, Scheme, Signer};
 use std::alloc::Global;
 use std::marker::Model;
 use view_ledger::ViewChain;
 
-/// Where an operation stands, and how many restarts there were before it.
-#[derive(Clone, Copy)]
-struct Begun {
-    place: usize,
-    restarts: u64,
-}
-
-/// The operations that were begun, by name: what each was begun for, in the order in which they came.
+/// The operations that were begun, in the order in which they came, and which of them each name means.
 pub struct Operations {
     alloc: Global,
-    names: NameMap<Begun>,
+    names: NameMap<usize>,
     operations: Vec<Operation>,
-    restarts: u64,
+    open_from: usize,
 }
 
 impl Model for Operations {
-    ghost use Rattle.std.specs.Prelude.{List, map};
-    ghost use Rattle.script_operations.specs.Task.{Task, task_of};
+    ghost use Rattle.std.specs.Prelude.{map};
+    ghost use Rattle.script_operations.specs.Operations.{Operations, begun_of};
 
-    ghost Value = { List Task };
+    ghost Value = { Operations };
 
-    ghost view = { λ own. map task_of own.operations.items };
+    ghost view = { λ own. record { all = map begun_of own.operations.items; names = own.names; open_from = own.open_from } };
 }
 
 impl Drop for Operations {
@@ -51,7 +48,7 @@ impl Drop for Operations {
             alloc: _,
             names: _,
             operations: _,
-            restarts: _,
+            open_from: _,
         } = self;
     }
 }
@@ -59,13 +56,13 @@ impl Drop for Operations {
 impl Operations {
     /// None is begun. It takes no memory.
     pub fn new(alloc: Global) -> Operations
-        ensures { result ≡ [] }
+        ensures { result ≡ record { all = []; names = []; open_from = 0 } }
     {
         Operations {
             alloc,
             names: NameMap::new(alloc),
             operations: Vec::new(alloc),
-            restarts: 0,
+            open_from: 0,
         }
     }
 
@@ -81,7 +78,7 @@ impl Operations {
         chain: &ViewChain,
     ) -> Result<(), NoMemory>
         requires { IsWithinLimits entry }
-        ensures begun { OnOk result (self.new ≡ self.old ++ Own client draw (bare entry) ∷ []) }
+        ensures begun { OnOk result (HasBegun self.old self.new name.now (Own client draw (bare entry)) label.now chain.now) }
         ensures no_memory { OnErr result (self.new ≡ self.old) }
     {
         let begun = OwnOperation::begin(self.alloc, client, draw, label, entry, chain)?;
@@ -99,7 +96,7 @@ impl Operations {
         nonce: Nonce,
         chain: &ViewChain,
     ) -> Result<(), NoMemory>
-        ensures begun { OnOk result (self.new ≡ self.old ++ Newest client draw handle nonce ∷ []) }
+        ensures begun { OnOk result (HasBegun self.old self.new name.now (Newest client draw handle nonce) label.now chain.now) }
         ensures no_memory { OnErr result (self.new ≡ self.old) }
     {
         let begun = NewestOperation::begin(self.alloc, client, draw, label, handle, nonce, chain)?;
@@ -117,7 +114,7 @@ impl Operations {
         chain: &ViewChain,
     ) -> Result<(), NoMemory>
         requires { height < 2 ^ 32 }
-        ensures begun { OnOk result (self.new ≡ self.old ++ Height client handle height ∷ []) }
+        ensures begun { OnOk result (HasBegun self.old self.new name.now (Height client handle height) label.now chain.now) }
         ensures no_memory { OnErr result (self.new ≡ self.old) }
     {
         let begun = HeightOperation::begin(self.alloc, client, label, handle, height, chain)?;
@@ -125,56 +122,55 @@ impl Operations {
     }
 
     fn begin(&mut self, name: &[u8], operation: Operation) -> Result<(), NoMemory>
-        ensures begun { OnOk result (self.new ≡ self.old ++ task_of operation ∷ []) }
+        ensures begun { OnOk result (HasMore self.old self.new name.now (begun_of operation)) }
         ensures no_memory { OnErr result (self.new ≡ self.old) }
     {
-        let begun = Begun {
-            place: self.operations.len(),
-            restarts: self.restarts,
-        };
+        let place = self.operations.len();
         self.operations.reserve(1)?;
-        self.names.set(self.alloc, name, begun)?;
+        self.names.set(self.alloc, name, place)?;
         self.operations.push_reserved(operation);
         Ok(())
     }
 
     /// Where the operation of this name stands.
     fn place(&self, name: &[u8]) -> Option<usize>
-        ensures { IfSome result (λ place. place < length self.now) }
+        ensures some { IfSome result (λ place. (place < length self.now.all) × (means self.now.names name.now ≡ Some place)) }
+        ensures none { IfNone result (NoneIsNamed self.now name.now) }
     {
-        let begun = self.names.get(name)?;
-        if begun.place < self.operations.len() {
-            Some(begun.place)
+        let place = self.names.get(name)?;
+        if place < self.operations.len() {
+            Some(place)
         } else {
             None
         }
     }
 
     /// The same, where no restart closed it.
-    fn open(&self, name: &[u8]) -> Option<usize>
-        ensures { IfSome result (λ place. place < length self.now) }
+    fn since_restart(&self, name: &[u8]) -> Option<usize>
+        ensures some { IfSome result (λ place. (place < length self.now.all) × (means self.now.names name.now ≡ Some place) × (self.now.open_from ≤ place)) }
+        ensures none { IfNone result (NoneIsOpen self.now name.now) }
     {
-        let begun = self.names.get(name)?;
-        if begun.restarts == self.restarts && begun.place < self.operations.len() {
-            Some(begun.place)
+        let place = self.place(name)?;
+        if self.open_from <= place {
+            Some(place)
         } else {
             None
         }
     }
 
-    /// Makes up to so many outside calls of the open operation of this name, over the coordinator's store and link. None where there is no
-    /// such operation, or it has come to its answer.
+    /// Makes up to so many outside calls of the open operation of this name, over the coordinator's store and link: none where there is no
+    /// such operation, and no more than those that bring it to its answer.
     pub fn step<S: Store, L: Link, C: Checker>(
         &mut self,
         name: &[u8],
         n: u64,
         coordinator: &mut Coordinator<S, L, C>,
     )
-        ensures tasks { self.new ≡ self.old }
-        ensures outside { OnlyOutside coordinator.old coordinator.new }
+        ensures tasks { tasks_of self.new ≡ tasks_of self.old }
+        ensures steps { StepsNamed S.view L.view coordinator.old coordinator.new (C.accepts coordinator.old.checker) self.old self.new name.now n }
     {
         let alloc = self.alloc;
-        if let Some(place) = self.open(name) {
+        if let Some(place) = self.since_restart(name) {
             self.operations[place].step(alloc, n, coordinator);
         }
     }
@@ -187,14 +183,16 @@ impl Operations {
         acts: &mut ClientActs<'_, G::Checker, K>,
         coordinator: &mut Coordinator<S, RosterBank<'_, G, K>, G::Checker>,
     ) -> Result<Option<Text>, NoMemory>
-        requires { AllHave acts.old.clients self.old }
-        ensures tasks { self.new ≡ self.old }
+        requires { AllHave acts.old.clients (tasks_of self.old) }
+        ensures tasks { tasks_of self.new ≡ tasks_of self.old }
         ensures stays { StaysOn acts.old acts.new }
         ensures checker { coordinator.new.checker ≡ coordinator.old.checker }
+        ensures finished { IfOk result (λ line. MatchOption line (NoneIsOpen self.old name.now × (self.new ≡ self.old) × (acts.new ≡ acts.old) × (coordinator.new ≡ coordinator.old)) (λ line.
+            HasFinished G.Checker.accepts S.view (bank_view G.Signer.key_of G.Signer.left_of G.Checker.accepts) K.accepts name.now acts.old acts.new coordinator.old coordinator.new self.old self.new line.bytes)) }
     {
         clients_stay_on::<G::Checker>();
         let alloc = self.alloc;
-        match self.open(name) {
+        match self.since_restart(name) {
             Some(place) => self.operations[place].finish(alloc, name, acts, coordinator),
             None => Ok(None),
         }
@@ -204,15 +202,16 @@ impl Operations {
     /// answer: the line. It is `done NAME`, and nothing is asked, where the client has accepted a reply for its draw. `None` where no
     /// operation has the name.
     pub fn retry<S: Store, G: Scheme, K: RunName>(
-        &mut self,
+        &self,
         name: &[u8],
         acts: &mut ClientActs<'_, G::Checker, K>,
         coordinator: &mut Coordinator<S, RosterBank<'_, G, K>, G::Checker>,
     ) -> Result<Option<Text>, NoMemory>
-        requires { AllHave acts.old.clients self.old }
-        ensures tasks { self.new ≡ self.old }
+        requires { AllHave acts.old.clients (tasks_of self.now) }
         ensures stays { StaysOn acts.old acts.new }
         ensures checker { coordinator.new.checker ≡ coordinator.old.checker }
+        ensures retried { IfOk result (λ line. MatchOption line (NoneIsNamed self.now name.now × (acts.new ≡ acts.old) × (coordinator.new ≡ coordinator.old)) (λ line.
+            HasRetried G.Checker.accepts S.view (bank_view G.Signer.key_of G.Signer.left_of G.Checker.accepts) K.accepts name.now acts.old acts.new coordinator.old coordinator.new self.now line.bytes)) }
     {
         clients_stay_on::<G::Checker>();
         let Some(place) = self.place(name) else {
@@ -231,14 +230,16 @@ impl Operations {
         acts: &mut ClientActs<'_, G::Checker, K>,
         coordinator: &mut Coordinator<S, RosterBank<'_, G, K>, G::Checker>,
     ) -> Result<Option<Text>, NoMemory>
-        requires { AllHave acts.old.clients self.old }
-        ensures tasks { self.new ≡ self.old }
+        requires { AllHave acts.old.clients (tasks_of self.old) }
+        ensures tasks { tasks_of self.new ≡ tasks_of self.old }
         ensures stays { StaysOn acts.old acts.new }
         ensures checker { coordinator.new.checker ≡ coordinator.old.checker }
+        ensures given { IfOk result (λ line. MatchOption line (NoneReads self.old name.now × (self.new ≡ self.old) × (acts.new ≡ acts.old) × (coordinator.new ≡ coordinator.old)) (λ line.
+            HasGiven G.Checker.accepts S.view (bank_view G.Signer.key_of G.Signer.left_of G.Checker.accepts) K.accepts name.now acts.old acts.new coordinator.old coordinator.new self.old self.new reply line.bytes)) }
     {
         clients_stay_on::<G::Checker>();
         let alloc = self.alloc;
-        match self.open(name) {
+        match self.since_restart(name) {
             Some(place) => self.operations[place].give(alloc, name, reply, acts, coordinator),
             None => Ok(None),
         }
@@ -246,9 +247,11 @@ impl Operations {
 
     /// Whose read of a newest row has this name and is open.
     pub fn reading(&self, name: &[u8]) -> Option<Reading>
-        ensures { IfSome result (λ reading. (draw : ℕ) × IsAmong (Newest reading.client draw reading.handle reading.nonce) self.now) }
+        ensures some { IfSome result (λ reading. (place : ℕ) × (draw : ℕ) × (label : List ℕ) × (progress : Progress)
+            × IsOpen self.now name.now place (record { task = Newest reading.client draw reading.handle reading.nonce; label = label; progress = progress })) }
+        ensures none { IfNone result (NoneReads self.now name.now) }
     {
-        match self.open(name) {
+        match self.since_restart(name) {
             Some(place) => self.operations[place].reading(),
             None => None,
         }
@@ -256,17 +259,19 @@ impl Operations {
 
     /// The open operation of this name closes, with no answer for its client.
     pub fn close(&mut self, name: &[u8])
-        ensures { self.new ≡ self.old }
+        ensures tasks { tasks_of self.new ≡ tasks_of self.old }
+        ensures closed { (place : ℕ) (begun : Begun) → IsOpen self.old name.now place begun → self.new ≡ with_begun self.old place (at_progress begun Closed) }
+        ensures none { NoneIsOpen self.old name.now → self.new ≡ self.old }
     {
-        if let Some(place) = self.open(name) {
+        if let Some(place) = self.since_restart(name) {
             self.operations[place].close();
         }
     }
 
     /// All operations close.
     pub fn restart(&mut self)
-        ensures { self.new ≡ self.old }
+        ensures { self.new ≡ record { all = self.old.all; names = self.old.names; open_from = length self.old.all } }
     {
-        self.restarts = self.restarts.saturating_add(1);
+        self.open_from = self.operations.len();
     }
 }

@@ -14,7 +14,7 @@ use Rattle.coordinator.specs.State.{State}
 use Rattle.reply_taking.specs.Learning.{Grows}
 use Rattle.client_acts.specs.ClientActs.{Acts, ClientActs, Each, IsOf, StaysOn}
 use Rattle.answer_lines.specs.Draws.{IsOpen}
-use Rattle.answer_lines.specs.Giving.{Gave}
+use Rattle.answer_lines.specs.Giving.{Gave, OnlyLearned}
 use Rattle.answer_lines.specs.Taken.{Sides}
 use Rattle.script_world.specs.Begun.{DrewOf}
 use Rattle.script_world.specs.Lines.{Asked}
@@ -60,8 +60,9 @@ module _ {L C : Type 0} (accepts : C → Accepts) (link_view : L → LinkView) (
       → Each (IsOf accepts old.first checks) old.clients → DrewOf old drawn place act
       → coordinator_says accepts lying_view link_view before middle call answer
       → Gave drawn new place middle after (λ sides. took checks sides answer)
+      → OnlyLearned accepts lying_view link_view middle after
       → Asked accepts link_view (seen before old) (seen after new) place (Some act) call took
-  asked_after_draw old drawn new before middle after place act call answer took each drew says gave =
+  asked_after_draw old drawn new before middle after place act call answer took each drew says gave learned =
       let was : ClientPass C = drew.0 in
       let is : ClientPass C = drew.1 in
       let between : ClientPass C = gave.0 in
@@ -83,6 +84,7 @@ module _ {L C : Type 0} (accepts : C → Accepts) (link_view : L → LinkView) (
         grows = grows_again was is to drew.2.grows (subst (λ (pass : ClientPass C). Grows pass to) same gave.2.grows);
         taken = subst (λ (by : Accepts). took by (record { from = is; to = to; before = middle; after = after }) answer) agrees
             (subst (λ (pass : ClientPass C). took checks (record { from = pass; to = to; before = middle; after = after }) answer) same gave.3);
+        learned = learned;
         first = gave.2.first ∙ drew.2.first;
       }
 
@@ -91,8 +93,9 @@ module _ {L C : Type 0} (accepts : C → Accepts) (link_view : L → LinkView) (
       → Each (IsOf accepts old.first checks) old.clients
       → coordinator_says accepts lying_view link_view before middle call answer
       → Gave old new place middle after (λ sides. took checks sides answer)
+      → OnlyLearned accepts lying_view link_view middle after
       → Asked accepts link_view (seen before old) (seen after new) place None call took
-  asked_at_once old new before middle after place call answer took each says gave =
+  asked_at_once old new before middle after place call answer took each says gave learned =
       let was : ClientPass C = gave.0 in
       let to : ClientPass C = gave.1 in
       let agrees : checks ≡ accepts was.checker = sym (each place was gave.2.stood).1 in
@@ -108,5 +111,6 @@ module _ {L C : Type 0} (accepts : C → Accepts) (link_view : L → LinkView) (
         drew = refl;
         grows = gave.2.grows;
         taken = subst (λ (by : Accepts). took by (record { from = was; to = to; before = middle; after = after }) answer) agrees gave.3;
+        learned = learned;
         first = gave.2.first;
       }

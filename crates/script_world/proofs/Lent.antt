@@ -17,21 +17,28 @@ use Rattle.endorser_cell.specs.Cells.{cell_of}
 use Rattle.endorser_cell.specs.EndorserCell.{EndorserCell}
 use Rattle.name_map.specs.NameMap.{means}
 use Rattle.reply_lines.specs.Lines.{raw_line}
+use Rattle.script_operations.specs.Operations.{Operations}
 use Rattle.script_world.specs.Labels.{handle_for}
 use Rattle.script_world.specs.Nonce.{nonce}
 use Rattle.script_world.specs.Raw.{AnsweredRaw, AppendedRaw, IsPrevFor, IsPrevOf, OnlyLink, OnlyStore}
-use Rattle.script_world.specs.Running.{Running, world_of}
+use Rattle.script_world.specs.Running.{Running, acts_of, world_of}
 use Rattle.script_world.proofs.Goes.{value}
 
-module _ {L C : Type 0} (old : Running L C) (state : State LyingStore L C) (acts : ClientActs C) (ledgers : List (List ℕ × List ℕ)) (draws : ℕ) (view : value state acts ledgers draws ≡ old) where
+module _ {L C : Type 0} (old : Running L C) (state : State LyingStore L C) (acts : ClientActs C) (operations : Operations) (ledgers : List (List ℕ × List ℕ)) (draws : ℕ) (view : value state acts operations ledgers draws ≡ old) where
   pub state_is : state ≡ old.state
   state_is = ap (λ (running : Running L C). running.state) view
 
-  pub first_is : acts.first ≡ old.first
-  first_is = ap (λ (running : Running L C). running.first) view
+  pub acts_are : acts ≡ acts_of old
+  acts_are = ap acts_of view
 
-  pub clients_are : acts.clients ≡ old.clients
-  clients_are = ap (λ (running : Running L C). running.clients) view
+  pub names_are : acts.names ≡ old.names
+  names_are = ap (λ (running : Running L C). running.names) view
+
+  pub turns_are : acts.turns ≡ old.turns
+  turns_are = ap (λ (running : Running L C). running.turns) view
+
+  pub operations_are : operations ≡ old.operations
+  operations_are = ap (λ (running : Running L C). running.operations) view
 
   pub ledgers_are : ledgers ≡ old.ledgers
   ledgers_are = ap (λ (running : Running L C). running.ledgers) view
@@ -39,11 +46,17 @@ module _ {L C : Type 0} (old : Running L C) (state : State LyingStore L C) (acts
   pub draws_are : draws ≡ old.draws
   draws_are = ap (λ (running : Running L C). running.draws) view
 
-  pub only_state : (later : State LyingStore L C) → value later acts ledgers draws ≡ record old { state = later }
+  pub only_state : (later : State LyingStore L C) → value later acts operations ledgers draws ≡ record old { state = later }
   only_state later = ap (λ (running : Running L C). record running { state = later }) view
 
-  pub only_link : (link : L) → OnlyLink old (value (record state { link = link }) acts ledgers draws)
-  only_link link = subst (λ (old : Running L C). OnlyLink old (value (record state { link = link }) acts ledgers draws)) view refl
+  pub only_operations : (begun : Operations) → value state acts begun ledgers draws ≡ record old { operations = begun }
+  only_operations begun = ap (λ (running : Running L C). record running { operations = begun }) view
+
+  pub only_run : (later : State LyingStore L C) (begun : Operations) → value later acts begun ledgers draws ≡ record old { state = later; operations = begun }
+  only_run later begun = ap (λ (running : Running L C). record running { state = later; operations = begun }) view
+
+  pub only_link : (link : L) → OnlyLink old (value (record state { link = link }) acts operations ledgers draws)
+  only_link link = subst (λ (old : Running L C). OnlyLink old (value (record state { link = link }) acts operations ledgers draws)) view refl
 
   pub was_link : (link : L) → link ≡ state.link → link ≡ old.state.link
   was_link link is = is ∙ ap (λ (running : Running L C). running.state.link) view
@@ -51,8 +64,8 @@ module _ {L C : Type 0} (old : Running L C) (state : State LyingStore L C) (acts
   pub was_store : (store : LyingStore) → store ≡ state.store → store ≡ old.state.store
   was_store store is = is ∙ ap (λ (running : Running L C). running.state.store) view
 
-  pub only_store : (store : LyingStore) → OnlyStore old (value (record state { store = store }) acts ledgers draws)
-  only_store store = subst (λ (old : Running L C). OnlyStore old (value (record state { store = store }) acts ledgers draws)) view refl
+  pub only_store : (store : LyingStore) → OnlyStore old (value (record state { store = store }) acts operations ledgers draws)
+  only_store store = subst (λ (old : Running L C). OnlyStore old (value (record state { store = store }) acts operations ledgers draws)) view refl
 
 module _ {S C : Type 0} (key : S → List ℕ) (left size : S → ℕ) (signs : S → List ℕ → List ℕ → S → Type 0) (fit : S → C → Type 0) (old new : CellBank S C) where
   pub answered_raw : (id : ℕ) (call : Call) (result : Option (Result EndorserAnswer NoMemory)) (asked : Result EndorserAnswer NoMemory) (answer : EndorserAnswer) (line : List ℕ)
@@ -85,14 +98,14 @@ module _ {S C : Type 0} (key : S → List ℕ) (left size : S → ℕ) (signs : 
       subst (λ (call : Call). IfSome line (λ line. Raw old.state.link call line.bytes)) is
       (subst (λ (bank : CellBank S C). IfSome line (λ line. Raw bank call line.bytes)) was raw)
 
-  pub appended_raw : (state : State LyingStore (CellBank S C) C) (acts : ClientActs C) (ledgers : List (List ℕ × List ℕ)) (draws : ℕ)
+  pub appended_raw : (state : State LyingStore (CellBank S C) C) (acts : ClientActs C) (operations : Operations) (ledgers : List (List ℕ × List ℕ)) (draws : ℕ)
       (handle label : List ℕ) (height number : ℕ) (payload prev digest : List ℕ) (entry : Entry) (line : Option TextContent)
-      → value state acts ledgers draws ≡ old → handle ≡ handle_for (means ledgers) label → IsPrevFor state id handle height prev → lent ≡ state.link
+      → value state acts operations ledgers draws ≡ old → handle ≡ handle_for (means ledgers) label → IsPrevFor state id handle height prev → lent ≡ state.link
       → entry ≡ later_entry handle height (nonce number) payload → digest ≡ entry_digest entry
       → IfSome line (λ line. Raw lent (Append handle prev digest height) line.bytes)
       → IfSome line (λ line. AppendedRaw key left size signs fit old.state new id (handle_for (world_of old).labels label) height (nonce number) payload line.bytes)
-  appended_raw state acts ledgers draws handle label height number payload prev digest entry None view means_it above was is has raw = tt
-  appended_raw state acts ledgers draws handle label height number payload prev digest entry (Some line) view means_it above was is has raw =
+  appended_raw state acts operations ledgers draws handle label height number payload prev digest entry None view means_it above was is has raw = tt
+  appended_raw state acts operations ledgers draws handle label height number payload prev digest entry (Some line) view means_it above was is has raw =
       let whole : AppendedRaw key left size signs fit state new id handle height (nonce number) payload line.bytes = record {
         prev = prev;
         above = above;

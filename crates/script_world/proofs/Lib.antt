@@ -1,6 +1,11 @@
 pub mod Goes
+pub mod Kept
 pub mod AskedFor
 pub mod LinesMade
 pub mod Beginning
 pub mod Lent
 pub mod SignedMore
+pub mod Members
+pub mod MarksMore
+pub mod Carrying
+pub mod Offering

@@ -13,17 +13,18 @@ use Rattle.client_acts.specs.ClientActs.{ClientActs}
 use Rattle.name_map.specs.NameMap.{means, with_name}
 use Rattle.answer_lines.specs.Asking.{call_for}
 use Rattle.answer_lines.specs.Taken.{Sides, TookAt, TookLatest, TookOwn}
+use Rattle.script_operations.specs.Operations.{Operations}
 use Rattle.script_world.specs.Labels.{handle_for}
 use Rattle.script_world.specs.Lines.{Appended, Asked, MadeLedger, ReadHeight, ReadNewest}
 use Rattle.script_world.specs.Nonce.{nonce}
 use Rattle.script_world.specs.Running.{Running, seen, world_of}
 use Rattle.script_world.proofs.Goes.{value}
 
-module _ {L C : Type 0} (accepts : C → Accepts) (link_view : L → LinkView) (state later : State LyingStore L C) (acts after : ClientActs C) (place : ℕ) where
+module _ {L C : Type 0} (accepts : C → Accepts) (link_view : L → LinkView) (state later : State LyingStore L C) (acts after : ClientActs C) (operations : Operations) (place : ℕ) where
   -- what else there is of a run doesn't matter
   asked_over : (ledgers others : List (List ℕ × List ℕ)) (draws more : ℕ) (draw : Option Act) (call : ServiceCall) (took : Accepts → Sides LyingStore L C → ServiceAnswer → Type 0)
       → Asked accepts link_view (seen state acts) (seen later after) place draw call took
-      → Asked accepts link_view (world_of (value state acts ledgers draws)) (world_of (value later after others more)) place draw call took
+      → Asked accepts link_view (world_of (value state acts operations ledgers draws)) (world_of (value later after operations others more)) place draw call took
   asked_over ledgers others draws more draw call took asked = record {
     middle = asked.middle;
     answer = asked.answer;
@@ -36,6 +37,7 @@ module _ {L C : Type 0} (accepts : C → Accepts) (link_view : L → LinkView) (
     drew = asked.drew;
     grows = asked.grows;
     taken = asked.taken;
+    learned = asked.learned;
     first = asked.first;
   }
 
@@ -45,11 +47,11 @@ module _ {L C : Type 0} (accepts : C → Accepts) (link_view : L → LinkView) (
       (λ checks sides answer. TookOwn checks sides label (bare entry) answer line)
 
   pub made_ledger : (old : Running L C) (ledgers others : List (List ℕ × List ℕ)) (draws more : ℕ) (entry : Entry) (handle label payload line : List ℕ)
-      → value state acts ledgers draws ≡ old → entry ≡ first_entry (nonce draws) payload → AskedForEntry entry label line
+      → value state acts operations ledgers draws ≡ old → entry ≡ first_entry (nonce draws) payload → AskedForEntry entry label line
       → more ≡ draws + 1 → handle ≡ handle_of entry → means others ≡ with_name (means ledgers) label handle
-      → MadeLedger accepts link_view (world_of old) (world_of (value later after others more)) place label payload line
+      → MadeLedger accepts link_view (world_of old) (world_of (value later after operations others more)) place label payload line
   made_ledger old ledgers others draws more entry handle label payload line view is asked next has named =
-      subst (λ (old : Running L C). MadeLedger accepts link_view (world_of old) (world_of (value later after others more)) place label payload line) view (record {
+      subst (λ (old : Running L C). MadeLedger accepts link_view (world_of old) (world_of (value later after operations others more)) place label payload line) view (record {
         asked = asked_over ledgers others draws more _ _ (λ checks sides answer. TookOwn checks sides label (first_entry (nonce draws) payload) answer line)
             (subst (λ (entry : Entry). AskedForEntry entry label line) is asked);
         draws = next;
@@ -57,12 +59,12 @@ module _ {L C : Type 0} (accepts : C → Accepts) (link_view : L → LinkView) (
       })
 
   pub appended : (old : Running L C) (ledgers : List (List ℕ × List ℕ)) (draws more : ℕ) (entry : Entry) (handle label : List ℕ) (height : ℕ) (payload line : List ℕ)
-      → value state acts ledgers draws ≡ old → handle ≡ handle_for (means ledgers) label → entry ≡ later_entry handle height (nonce draws) payload → AskedForEntry entry label line
+      → value state acts operations ledgers draws ≡ old → handle ≡ handle_for (means ledgers) label → entry ≡ later_entry handle height (nonce draws) payload → AskedForEntry entry label line
       → more ≡ draws + 1
-      → Appended accepts link_view (world_of old) (world_of (value later after ledgers more)) place label height payload line
+      → Appended accepts link_view (world_of old) (world_of (value later after operations ledgers more)) place label height payload line
   appended old ledgers draws more entry handle label height payload line view means_it is asked next =
       let own = is ∙ ap (λ (handle : List ℕ). later_entry handle height (nonce draws) payload) means_it in
-      subst (λ (old : Running L C). Appended accepts link_view (world_of old) (world_of (value later after ledgers more)) place label height payload line) view (record {
+      subst (λ (old : Running L C). Appended accepts link_view (world_of old) (world_of (value later after operations ledgers more)) place label height payload line) view (record {
         asked = asked_over ledgers ledgers draws more _ _ (λ checks sides answer. TookOwn checks sides label (later_entry (handle_for (means ledgers) label) height (nonce draws) payload) answer line)
             (subst (λ (entry : Entry). AskedForEntry entry label line) own asked);
         draws = next;
@@ -74,11 +76,11 @@ module _ {L C : Type 0} (accepts : C → Accepts) (link_view : L → LinkView) (
       (λ checks sides answer. TookLatest checks sides label handle drawn answer line)
 
   pub read_newest : (old : Running L C) (ledgers : List (List ℕ × List ℕ)) (draws more : ℕ) (handle drawn label line : List ℕ)
-      → value state acts ledgers draws ≡ old → handle ≡ handle_for (means ledgers) label → drawn ≡ nonce draws → AskedForNewest handle drawn label line
+      → value state acts operations ledgers draws ≡ old → handle ≡ handle_for (means ledgers) label → drawn ≡ nonce draws → AskedForNewest handle drawn label line
       → more ≡ draws + 1
-      → ReadNewest accepts link_view (world_of old) (world_of (value later after ledgers more)) place label line
+      → ReadNewest accepts link_view (world_of old) (world_of (value later after operations ledgers more)) place label line
   read_newest old ledgers draws more handle drawn label line view means_it is asked next =
-      subst (λ (old : Running L C). ReadNewest accepts link_view (world_of old) (world_of (value later after ledgers more)) place label line) view (record {
+      subst (λ (old : Running L C). ReadNewest accepts link_view (world_of old) (world_of (value later after operations ledgers more)) place label line) view (record {
         asked = asked_over ledgers ledgers draws more _ _ (λ checks sides answer. TookLatest checks sides label (handle_for (means ledgers) label) (nonce draws) answer line)
             (subst (λ (drawn : List ℕ). AskedForNewest (handle_for (means ledgers) label) drawn label line) is
             (subst (λ (handle : List ℕ). AskedForNewest handle drawn label line) means_it asked));
@@ -91,10 +93,10 @@ module _ {L C : Type 0} (accepts : C → Accepts) (link_view : L → LinkView) (
       (λ checks sides answer. TookAt checks sides label handle height answer line)
 
   pub read_height : (old : Running L C) (ledgers : List (List ℕ × List ℕ)) (draws : ℕ) (handle label : List ℕ) (height : ℕ) (line : List ℕ)
-      → value state acts ledgers draws ≡ old → handle ≡ handle_for (means ledgers) label → AskedForRow handle height label line
-      → ReadHeight accepts link_view (world_of old) (world_of (value later after ledgers draws)) place label height line
+      → value state acts operations ledgers draws ≡ old → handle ≡ handle_for (means ledgers) label → AskedForRow handle height label line
+      → ReadHeight accepts link_view (world_of old) (world_of (value later after operations ledgers draws)) place label height line
   read_height old ledgers draws handle label height line view means_it asked =
-      subst (λ (old : Running L C). ReadHeight accepts link_view (world_of old) (world_of (value later after ledgers draws)) place label height line) view (record {
+      subst (λ (old : Running L C). ReadHeight accepts link_view (world_of old) (world_of (value later after operations ledgers draws)) place label height line) view (record {
         asked = asked_over ledgers ledgers draws draws _ _ (λ checks sides answer. TookAt checks sides label (handle_for (means ledgers) label) height answer line)
             (subst (λ (handle : List ℕ). AskedForRow handle height label line) means_it asked);
         draws = refl;

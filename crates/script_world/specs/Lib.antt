@@ -9,3 +9,4 @@ pub mod Held
 pub mod Faults
 pub mod Raw
 pub mod Signed
+pub mod Carried

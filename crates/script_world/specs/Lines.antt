@@ -14,6 +14,7 @@ use Rattle.coordinator.specs.State.{State}
 use Rattle.reply_taking.specs.Learning.{Grows}
 use Rattle.script_world.specs.Labels.{handle_for, with_label}
 use Rattle.script_world.specs.Nonce.{nonce}
+use Rattle.answer_lines.specs.Giving.{OnlyLearned}
 use Rattle.answer_lines.specs.Taken.{Sides, TookOwn, TookAt, TookLatest}
 use Rattle.script_world.specs.World.{World}
 
@@ -22,7 +23,8 @@ abbrev pub Drew : {C : Type 0} → Option Act → ClientPass C → ClientPass C 
 Drew None from drawn = drawn ≡ from
 Drew (Some act) from drawn = Notes from drawn act
 
--- The client at this place drew, asked the coordinator for something and took its answer. All other clients are as they were.
+-- The client at this place drew, asked the coordinator for something and took its answer. Whatever it learned on the way to its check, it
+-- learned by views. All other clients are as they were.
 pub record Asked {L C : Type 0} (accepts : C → Accepts) (link_view : L → LinkView) (old new : World L C) (place : ℕ) (draw : Option Act) (call : ServiceCall) (took : Accepts → Sides LyingStore L C → ServiceAnswer → Type 0) : Type 0 where
   pub middle : State LyingStore L C
   pub answer : ServiceAnswer
@@ -35,6 +37,7 @@ pub record Asked {L C : Type 0} (accepts : C → Accepts) (link_view : L → Lin
   pub drew : Drew draw from drawn
   pub grows : Grows from to
   pub taken : took (accepts from.checker) (record { from = drawn; to = to; before = middle; after = new.state }) answer
+  pub learned : OnlyLearned accepts lying_view link_view middle new.state
   pub first : new.first ≡ old.first
 
 module _ {L C : Type 0} (accepts : C → Accepts) (link_view : L → LinkView) (old new : World L C) (place : ℕ) where

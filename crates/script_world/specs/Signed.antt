@@ -1,5 +1,5 @@
 -- Replies that are made of what endorsers signed.
-use Rattle.std.specs.Prelude.{◌≡◌, ℕ, ◌&&◌, Bool, false, bytes_eq, if◌then◌else◌, List, [], ◌∷◌, map, fold, filter_map, Option, Some, None}
+use Rattle.std.specs.Prelude.{◌≡◌, ◌⊎◌, ℕ, ◌&&◌, Bool, false, bytes_eq, if◌then◌else◌, List, [], ◌∷◌, map, fold, filter_map, Option, Some, None}
 use Rattle.statement.specs.declared.statement.Statement.{Statement}
 use Rattle.statement.specs.declared.statement.Statement.TheVariants as statements
 use Rattle.statement.specs.Mark.{Content as Mark}
@@ -70,3 +70,11 @@ pub record IsOffered (store : LyingStore) (handle : List ℕ) (signed : List Sig
 pub record IsForged (store : LyingStore) (view handle nonce : List ℕ) (count : ℕ) (reply : LatestReply) : Type 0 where
   pub row : IsNewest store handle count reply.row
   pub statement : reply.receipt.statement ≡ statements.Latest view handle (tail_or_zeros reply.row) count nonce
+
+-- Each of these signed the bytes, in their order, under its id. One that has no signature left made no mark.
+abbrev pub AreMarksBy : {S : Type 0} → (S → ℕ) → (S → List ℕ → List ℕ → S → Type 0) → List ℕ → List (ℕ × S) → List Mark → Type 0
+AreMarksBy {S} left signs bytes [] marks = marks ≡ []
+AreMarksBy {S} left signs bytes ((id, signer) ∷ signers) marks =
+    ((left signer ≡ 0) × AreMarksBy left signs bytes signers marks)
+    ⊎ ((sig : List ℕ) × (after : S) × (more : List Mark) × signs signer bytes sig after × (marks ≡ record { id = id; sig = sig } ∷ more)
+    × AreMarksBy left signs bytes signers more)

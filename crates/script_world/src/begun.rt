@@ -1,7 +1,13 @@
 // Operations that a script begins. Each draws as the line does that is done at once, and makes no call.
-ghost use Rattle.std.specs.Prelude.{◌≡◌, ◌≤◌, ◌<◌, ◌^◌, length, OnOk};
+ghost use Rattle.std.specs.Prelude.{◌≡◌, ◌≤◌, ◌<◌, ◌^◌, ℕ, length, OnOk};
+ghost use Rattle.answer_lines.specs.Draws.{DrewEntry, DrewRead};
+ghost use Rattle.coordinator.specs.Entries.{first_entry, later_entry};
+ghost use Rattle.script_operations.specs.Task.{Height, Newest, Own};
 ghost use Rattle.script_world.specs.Begun.{BeganAppend, BeganLatest, BeganNew};
+ghost use Rattle.script_world.specs.Carried.{Opened};
 ghost use Rattle.script_world.specs.Going.{GoesOn};
+ghost use Rattle.script_world.specs.Labels.{handle_for};
+ghost use Rattle.script_world.specs.Nonce.{nonce};
 ghost use Rattle.script_world.specs.Running.{world_of};
 
 use crate::asking::{calls, draw_entry, draw_read};
@@ -28,6 +34,8 @@ impl<'w, G: Scheme, K: RunName> World<'w, G, K> {
         requires payload { length payload.now ≤ 65536 }
         ensures began { OnOk result (BeganNew (world_of self.old) (world_of self.new) client label.now payload.now) }
         ensures goes { OnOk result (GoesOn (world_of self.old) (world_of self.new)) }
+        ensures opened { OnOk result ((draw : ℕ) × DrewEntry self.new.clients client draw (first_entry (nonce self.old.draws) payload.now)
+            × Opened self.old self.new op.now (Own client draw (first_entry (nonce self.old.draws) payload.now)) label.now) }
     {
         operations_keep_draws::<G::Checker>();
         let next = after(self.draws)?;
@@ -56,6 +64,8 @@ impl<'w, G: Scheme, K: RunName> World<'w, G, K> {
         requires payload { length payload.now ≤ 65536 }
         ensures began { OnOk result (BeganAppend (world_of self.old) (world_of self.new) client label.now height payload.now) }
         ensures goes { OnOk result (GoesOn (world_of self.old) (world_of self.new)) }
+        ensures opened { OnOk result ((draw : ℕ) × DrewEntry self.new.clients client draw (later_entry (handle_for (world_of self.old).labels label.now) height (nonce self.old.draws) payload.now)
+            × Opened self.old self.new op.now (Own client draw (later_entry (handle_for (world_of self.old).labels label.now) height (nonce self.old.draws) payload.now)) label.now) }
     {
         operations_keep_draws::<G::Checker>();
         let next = after(self.draws)?;
@@ -74,6 +84,8 @@ impl<'w, G: Scheme, K: RunName> World<'w, G, K> {
         requires { client < length self.old.clients }
         ensures began { OnOk result (BeganLatest (world_of self.old) (world_of self.new) client) }
         ensures goes { OnOk result (GoesOn (world_of self.old) (world_of self.new)) }
+        ensures opened { OnOk result ((draw : ℕ) × DrewRead self.new.clients client draw (nonce self.old.draws)
+            × Opened self.old self.new op.now (Newest client draw (handle_for (world_of self.old).labels label.now) (nonce self.old.draws)) label.now) }
     {
         operations_keep_draws::<G::Checker>();
         let next = after(self.draws)?;
@@ -97,8 +109,10 @@ impl<'w, G: Scheme, K: RunName> World<'w, G, K> {
     ) -> Result<(), NoMemory>
         requires client { client < length self.old.clients }
         requires below { height < 2 ^ 32 }
-        ensures { self.new ≡ self.old }
+        ensures rest { self.new ≡ record self.old { operations = self.new.operations } }
+        ensures opened { OnOk result (Opened self.old self.new op.now (Height client (handle_for (world_of self.old).labels label.now) height) label.now) }
     {
+        operations_keep_draws::<G::Checker>();
         let handle = handle_for(&self.labels, label);
         let chain = self.coordinator.chain();
         self.operations

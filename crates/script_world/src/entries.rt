@@ -2,6 +2,7 @@
 ghost use Rattle.std.specs.Prelude.{◌≡◌, ◌≤◌, ◌<◌, ◌+◌, ◌^◌, length, IfOk};
 ghost use Rattle.chain_block.specs.Entry.{IsWithinLimits};
 ghost use Rattle.coordinator.specs.Entries.{first_entry, later_entry};
+ghost use Rattle.script_world.specs.Carried.{KeepsNames};
 ghost use Rattle.script_world.specs.Lines.{Appended, MadeLedger};
 ghost use Rattle.script_world.specs.Nonce.{nonce};
 ghost use Rattle.script_world.specs.Running.{world_of};
@@ -74,7 +75,8 @@ impl<'w, G: Scheme, K: RunName> World<'w, G, K> {
     ) -> Result<Text, NoMemory>
         requires client { client < length self.old.clients }
         requires payload { length payload.now ≤ 65536 }
-        ensures { IfOk result (λ line. MadeLedger G.Checker.accepts (bank_view G.Signer.key_of G.Signer.left_of G.Checker.accepts) (world_of self.old) (world_of self.new) client label.now payload.now line.bytes) }
+        ensures line { IfOk result (λ line. MadeLedger G.Checker.accepts (bank_view G.Signer.key_of G.Signer.left_of G.Checker.accepts) (world_of self.old) (world_of self.new) client label.now payload.now line.bytes) }
+        ensures keeps { KeepsNames self.old self.new }
     {
         operations_keep_draws::<G::Checker>();
         let next = after(self.draws)?;
@@ -104,7 +106,8 @@ impl<'w, G: Scheme, K: RunName> World<'w, G, K> {
         requires from { 1 ≤ height }
         requires below { height < 2 ^ 32 }
         requires payload { length payload.now ≤ 65536 }
-        ensures { IfOk result (λ line. Appended G.Checker.accepts (bank_view G.Signer.key_of G.Signer.left_of G.Checker.accepts) (world_of self.old) (world_of self.new) client label.now height payload.now line.bytes) }
+        ensures line { IfOk result (λ line. Appended G.Checker.accepts (bank_view G.Signer.key_of G.Signer.left_of G.Checker.accepts) (world_of self.old) (world_of self.new) client label.now height payload.now line.bytes) }
+        ensures keeps { KeepsNames self.old self.new }
     {
         operations_keep_draws::<G::Checker>();
         let next = after(self.draws)?;

@@ -14,7 +14,8 @@
 //! a label means.
 //!
 //! `specs/World` is what a run has come to. `specs/Lines` says what each line that is done at once makes of it, `specs/Begun` what a
-//! beginning does, and `specs/Going` what stays whatever is done. Want of memory ends a run: what it leaves of the line isn't said.
+//! beginning does, and `specs/Going` what stays whatever is done. `specs/Running` is a run with the names of its clients, their turns and
+//! its operations, and `specs/Carried` says what becomes of these. Want of memory ends a run: what it leaves of the line isn't said.
 
 #![tactic(auto)]
 

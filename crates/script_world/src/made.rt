@@ -1,8 +1,11 @@
 // Replies that a script gives a client, which the service didn't give.
-ghost use Rattle.std.specs.Prelude.{◌≡◌, IfOk, IfSome, IfNone, None};
+ghost use Rattle.std.specs.Prelude.{◌≡◌, ◌++◌, map, option_to_list, IfOk, IfSome, IfNone, MatchOption, None, OnOk};
+ghost use Rattle.script_operations.specs.Giving.{NoneReads};
+ghost use Rattle.script_world.specs.Carried.{Forged, GivenReply, Offered};
+ghost use Rattle.statement.specs.Statement.{statement_bytes};
 ghost use Rattle.script_world.specs.Going.{GoesOn};
 ghost use Rattle.script_world.specs.Running.{world_of};
-ghost use Rattle.script_world.specs.Signed.{IsForged, IsOffered, all_signed, count_told, receipt_of};
+ghost use Rattle.script_world.specs.Signed.{AreMarksBy, IsForged, IsOffered, all_signed, count_told, receipt_of};
 
 use crate::held::{newest_row, tail_or_zeros};
 use crate::member_signer::MemberSigner;
@@ -73,7 +76,8 @@ fn forged<S: Signer>(
     count: u64,
     signers: Vec<MemberSigner<S>>,
 ) -> Result<LatestReply, NoMemory>
-    ensures { IfOk result (λ reply. IsForged store.now view handle nonce count reply) }
+    ensures forged { IfOk result (λ reply. IsForged store.now view handle nonce count reply) }
+    ensures marks { IfOk result (λ reply. AreMarksBy S.left_of S.signs (statement_bytes reply.receipt.statement) (map (λ member. (member.id, member.signer)) signers.items) reply.receipt.marks) }
 {
     let row = newest_row(alloc, store, &handle, count)?;
     let statement = Statement::Latest {
@@ -93,22 +97,37 @@ fn marks_by<S: Signer>(
     alloc: Global,
     signers: Vec<MemberSigner<S>>,
     statement: &Statement,
-) -> Result<Vec<Mark>, NoMemory> {
+) -> Result<Vec<Mark>, NoMemory>
+    ensures { IfOk result (λ marks. AreMarksBy S.left_of S.signs (statement_bytes statement.now) (map (λ member. (member.id, member.signer)) signers.items) marks.items) }
+{
     let bytes = statement.bytes();
     let mut marks = Vec::with_capacity(alloc, signers.len())?;
     for member in signers {
-        if let Some(mark) = mark_by(alloc, member, bytes.as_slice())? {
-            marks.push(mark)?;
-        }
+        let mark = mark_by(alloc, member, bytes.as_slice())?;
+        push_mark(&mut marks, mark)?;
     }
     Ok(marks)
+}
+
+fn push_mark(marks: &mut Vec<Mark>, mark: Option<Mark>) -> Result<(), NoMemory>
+    ensures { OnOk result (marks.new.items ≡ marks.old.items ++ option_to_list mark) }
+{
+    match mark {
+        Some(mark) => {
+            marks.push(mark)?;
+            Ok(())
+        }
+        None => Ok(()),
+    }
 }
 
 fn mark_by<S: Signer>(
     alloc: Global,
     member: MemberSigner<S>,
     bytes: &[u8],
-) -> Result<Option<Mark>, NoMemory> {
+) -> Result<Option<Mark>, NoMemory>
+    ensures { IfOk result (λ mark. MatchOption mark (S.left_of member.signer ≡ 0) (λ mark. (mark.id ≡ member.id) × ((after : S) × S.signs member.signer bytes.now mark.sig after))) }
+{
     let MemberSigner { id, signer } = member;
     let mut signer = signer;
     match signer.sign(alloc, bytes) {
@@ -124,7 +143,10 @@ impl<'w, G: Scheme, K: RunName> World<'w, G, K> {
     /// stands as the newest one by that statement. Where none of them signed, the line is `noreply`. In both cases the operation closes.
     /// `None` says that there is no such read.
     pub fn offer(&mut self, op: &[u8], ids: &[u32]) -> Result<Option<Text>, NoMemory>
+        ensures offered { IfOk result (λ line. MatchOption line (NoneReads self.old.operations op.now × (self.new ≡ self.old)) (λ line.
+            Offered G.Signer.key_of G.Signer.left_of G.Checker.accepts K.accepts self.old self.new op.now ids.now line.bytes)) }
         ensures goes { GoesOn (world_of self.old) (world_of self.new) }
+        ensures names { self.new.names ≡ self.old.names }
         ensures ledgers { self.new.ledgers ≡ self.old.ledgers }
         ensures draws { self.new.draws ≡ self.old.draws }
     {
@@ -155,7 +177,10 @@ impl<'w, G: Scheme, K: RunName> World<'w, G, K> {
         count: u64,
         signers: Vec<MemberSigner<G::Signer>>,
     ) -> Result<Option<Text>, NoMemory>
+        ensures forged { IfOk result (λ line. MatchOption line (NoneReads self.old.operations op.now × (self.new ≡ self.old)) (λ line.
+            Forged G.Signer.key_of G.Signer.left_of G.Checker.accepts K.accepts self.old self.new op.now G.Signer.signs count (map (λ member. (member.id, member.signer)) signers.items) line.bytes)) }
         ensures goes { GoesOn (world_of self.old) (world_of self.new) }
+        ensures names { self.new.names ≡ self.old.names }
         ensures ledgers { self.new.ledgers ≡ self.old.ledgers }
         ensures draws { self.new.draws ≡ self.old.draws }
     {
@@ -177,7 +202,10 @@ impl<'w, G: Scheme, K: RunName> World<'w, G, K> {
     }
 
     fn give(&mut self, op: &[u8], reply: LatestReply) -> Result<Option<Text>, NoMemory>
+        ensures given { IfOk result (λ line. MatchOption line (NoneReads self.old.operations op.now × (self.new ≡ self.old)) (λ line.
+            GivenReply G.Signer.key_of G.Signer.left_of G.Checker.accepts K.accepts self.old self.new op.now reply line.bytes)) }
         ensures goes { GoesOn (world_of self.old) (world_of self.new) }
+        ensures names { self.new.names ≡ self.old.names }
         ensures ledgers { self.new.ledgers ≡ self.old.ledgers }
         ensures draws { self.new.draws ≡ self.old.draws }
     {

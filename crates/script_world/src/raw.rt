@@ -1,5 +1,8 @@
 // Endorsers that are asked directly: such a call passes no link.
-ghost use Rattle.std.specs.Prelude.{◌≤◌, ◌<◌, ◌^◌, length, IfOk, IfSome};
+ghost use Rattle.std.specs.Prelude.{◌≡◌, ◌≤◌, ◌<◌, ◌^◌, ℕ, length, None, IfOk, IfSome, IfNone};
+ghost use Rattle.statement.specs.Config.{ids};
+ghost use Rattle.roster_bank.specs.Places.{place_in};
+ghost use Rattle.endorser_cell.specs.Cells.{cell_of};
 ghost use Rattle.port.specs.Call.{Latest, Show, call_of};
 ghost use Rattle.script_world.specs.Going.{GoesOn};
 ghost use Rattle.script_world.specs.Labels.{handle_for};
@@ -50,13 +53,22 @@ fn prev_for<G: Scheme, K: RunName>(
     height: u64,
 ) -> Result<Option<Digest>, NoMemory>
     requires { 1 ≤ height }
-    ensures { IfOk result (λ prev. IfSome prev (IsPrevFor coordinator.now id handle.now height)) }
+    ensures prev { IfOk result (λ prev. IfSome prev (IsPrevFor coordinator.now id handle.now height)) }
+    ensures none { IfOk result (λ prev. IfNone prev (place_in (ids K.members) id ≡ None)) }
 {
+    see_members(coordinator.link());
     let Some(cell) = coordinator.link().cell(id) else {
         return Ok(None);
     };
     let prev = prev_of(alloc, coordinator.store(), cell, handle, height)?;
     Ok(Some(prev))
+}
+
+/// Who has no cell is none of the roster.
+fn see_members<G: Scheme, K: RunName>(bank: &RosterBank<'_, G, K>)
+    ensures { (id : ℕ) → cell_of bank.now.cells id ≡ None → place_in (ids K.members) id ≡ None }
+{
+    let _ = bank.log();
 }
 
 /// Asks the endorser of the id: the line that says what it answered, `None` where no endorser has the id.
@@ -66,8 +78,10 @@ fn ask_raw<G: Scheme, K: RunName>(
     id: u32,
     call: &EndorserCall,
 ) -> Result<Option<Text>, NoMemory>
-    ensures { IfOk result (λ line. IfSome line (λ line. AnsweredRaw G.Signer.key_of G.Signer.left_of G.Signer.size_of G.Signer.signs G.fits bank.old bank.new id (call_of call.now) line.bytes)) }
+    ensures answered { IfOk result (λ line. IfSome line (λ line. AnsweredRaw G.Signer.key_of G.Signer.left_of G.Signer.size_of G.Signer.signs G.fits bank.old bank.new id (call_of call.now) line.bytes)) }
+    ensures none { IfOk result (λ line. IfNone line (place_in (ids K.members) id ≡ None)) }
 {
+    see_members(bank);
     let Some(asked) = bank.raw(alloc, id, call) else {
         return Ok(None);
     };
@@ -94,6 +108,7 @@ impl<'w, G: Scheme, K: RunName> World<'w, G, K> {
         ensures rest { OnlyLink self.old self.new }
         ensures answered { IfOk result (λ line. IfSome line (λ line. AppendedRaw G.Signer.key_of G.Signer.left_of G.Signer.size_of G.Signer.signs G.fits self.old.state self.new.state.link id
             (handle_for (world_of self.old).labels label.now) height (nonce number) payload.now line.bytes)) }
+        ensures none { IfOk result (λ line. IfNone line (place_in (ids K.members) id ≡ None)) }
         ensures goes { GoesOn (world_of self.old) (world_of self.new) }
     {
         let handle = handle_for(&self.labels, label);
@@ -122,6 +137,7 @@ impl<'w, G: Scheme, K: RunName> World<'w, G, K> {
         ensures rest { OnlyLink self.old self.new }
         ensures answered { IfOk result (λ line. IfSome line (λ line. AnsweredRaw G.Signer.key_of G.Signer.left_of G.Signer.size_of G.Signer.signs G.fits self.old.state.link self.new.state.link id
             (Latest (handle_for (world_of self.old).labels label.now) (nonce number)) line.bytes)) }
+        ensures none { IfOk result (λ line. IfNone line (place_in (ids K.members) id ≡ None)) }
         ensures goes { GoesOn (world_of self.old) (world_of self.new) }
     {
         let handle = handle_for(&self.labels, label);
@@ -136,6 +152,7 @@ impl<'w, G: Scheme, K: RunName> World<'w, G, K> {
         ensures rest { OnlyLink self.old self.new }
         ensures answered { IfOk result (λ line. IfSome line (λ line. AnsweredRaw G.Signer.key_of G.Signer.left_of G.Signer.size_of G.Signer.signs G.fits self.old.state.link self.new.state.link id
             (Show (handle_for (world_of self.old).labels label.now)) line.bytes)) }
+        ensures none { IfOk result (λ line. IfNone line (place_in (ids K.members) id ≡ None)) }
         ensures goes { GoesOn (world_of self.old) (world_of self.new) }
     {
         let call = EndorserCall::Show {

@@ -1,5 +1,6 @@
 // The reads that clients make, done at once.
 ghost use Rattle.std.specs.Prelude.{◌<◌, ◌^◌, length, IfOk};
+ghost use Rattle.script_world.specs.Carried.{KeepsNames};
 ghost use Rattle.script_world.specs.Lines.{ReadHeight, ReadNewest};
 ghost use Rattle.script_world.specs.Running.{world_of};
 
@@ -19,7 +20,8 @@ impl<'w, G: Scheme, K: RunName> World<'w, G, K> {
     /// `latest`: the client draws a nonce and reads the newest row.
     pub fn latest(&mut self, client: usize, label: &[u8]) -> Result<Text, NoMemory>
         requires { client < length self.old.clients }
-        ensures { IfOk result (λ line. ReadNewest G.Checker.accepts (bank_view G.Signer.key_of G.Signer.left_of G.Checker.accepts) (world_of self.old) (world_of self.new) client label.now line.bytes) }
+        ensures line { IfOk result (λ line. ReadNewest G.Checker.accepts (bank_view G.Signer.key_of G.Signer.left_of G.Checker.accepts) (world_of self.old) (world_of self.new) client label.now line.bytes) }
+        ensures keeps { KeepsNames self.old self.new }
     {
         operations_keep_draws::<G::Checker>();
         let next = after(self.draws)?;
@@ -41,7 +43,8 @@ impl<'w, G: Scheme, K: RunName> World<'w, G, K> {
     pub fn at(&mut self, client: usize, label: &[u8], height: u64) -> Result<Text, NoMemory>
         requires client { client < length self.old.clients }
         requires below { height < 2 ^ 32 }
-        ensures { IfOk result (λ line. ReadHeight G.Checker.accepts (bank_view G.Signer.key_of G.Signer.left_of G.Checker.accepts) (world_of self.old) (world_of self.new) client label.now height line.bytes) }
+        ensures line { IfOk result (λ line. ReadHeight G.Checker.accepts (bank_view G.Signer.key_of G.Signer.left_of G.Checker.accepts) (world_of self.old) (world_of self.new) client label.now height line.bytes) }
+        ensures keeps { KeepsNames self.old self.new }
     {
         operations_keep_draws::<G::Checker>();
         let handle = handle_for(&self.labels, label);

@@ -1,9 +1,10 @@
-ghost use Rattle.std.specs.Prelude.{◌≡◌, ◌<◌, [], length, IfOk, IfSome, OnOk};
+ghost use Rattle.std.specs.Prelude.{◌≡◌, ◌≢◌, ◌<◌, ℕ, [], length, slice_get, Some, IfOk, IfSome, IfNone, OnOk};
 ghost use Rattle.op_reconf.specs.State.{answer_of};
 ghost use Rattle.coordinator.specs.First.{SaysOfFirst};
 ghost use Rattle.blob_store.specs.LyingStore.{lying_view};
-ghost use Rattle.script_world.specs.Lines.{ClientCame, Restarted};
-ghost use Rattle.script_world.specs.Running.{world_of};
+ghost use Rattle.script_world.specs.Carried.{CameAs};
+ghost use Rattle.script_world.specs.Lines.{Restarted};
+ghost use Rattle.script_world.specs.Running.{acts_of, world_of};
 
 use blob_store::LyingStore;
 use client_acts::ClientActs;
@@ -35,16 +36,15 @@ impl<'w, G: Scheme, K: RunName> Model for World<'w, G, K> {
     ghost use Rattle.std.specs.Coded.{codes};
     ghost use Rattle.blob_store.specs.contracts.lying_store.LyingStore as store;
     ghost use Rattle.endorser_cell.specs.CellBank.{CellBank};
-    ghost use Rattle.script_world.specs.Running.{Running};
-    ghost use Rattle.script_operations.specs.Task.{AllHave};
+    ghost use Rattle.script_world.specs.Running.{IsKept, Running};
 
     ghost Value = { Running (CellBank G.Signer G.Checker) G.Checker };
 
     ghost coded = { Prim.hlevel (codes, store.the_row.coded) };
 
-    ghost view = { λ world. record { state = world.coordinator; first = world.acts.first; clients = world.acts.clients; ledgers = world.labels; draws = world.draws } };
+    ghost view = { λ world. record { state = world.coordinator; first = world.acts.first; names = world.acts.names; clients = world.acts.clients; turns = world.acts.turns; operations = world.operations; ledgers = world.labels; draws = world.draws } };
 
-    ghost invariant = { λ world. AllHave world.acts.clients world.operations };
+    ghost invariant = { λ world. IsKept world.acts world.operations };
 }
 
 impl<'w, G: Scheme, K: RunName> Drop for World<'w, G, K> {
@@ -72,7 +72,7 @@ impl<'w, G: Scheme, K: RunName> World<'w, G, K> {
         first: ViewChain,
         coordinator: Coordinator<LyingStore, RosterBank<'w, G, K>, G::Checker>,
     ) -> World<'w, G, K>
-        ensures { result ≡ record { state = coordinator.entry; first = first; clients = []; ledgers = []; draws = 0 } }
+        ensures { result ≡ record { state = coordinator.entry; first = first; names = []; clients = []; turns = []; operations = record { all = []; names = []; open_from = 0 }; ledgers = []; draws = 0 } }
     {
         World {
             alloc,
@@ -94,7 +94,8 @@ impl<'w, G: Scheme, K: RunName> World<'w, G, K> {
 
     /// The place of the client with this name, by the order in which the clients came.
     pub fn client(&self, name: &[u8]) -> Option<usize>
-        ensures { IfSome result (λ place. place < length self.now.clients) }
+        ensures some { IfSome result (λ place. (place < length self.now.clients) × (slice_get self.now.names place ≡ Some name.now)) }
+        ensures none { IfNone result ((place : ℕ) → slice_get self.now.names place ≢ Some name.now) }
     {
         self.acts.place(name)
     }
@@ -102,7 +103,7 @@ impl<'w, G: Scheme, K: RunName> World<'w, G, K> {
     /// The place of the client with this name. Where there is none it comes now, did nothing yet and knows view 0 alone.
     pub fn add_client(&mut self, name: &[u8], checker: G::Checker) -> Result<usize, NoMemory>
         requires { G.Checker.accepts checker ≡ K.accepts }
-        ensures { IfOk result (λ place. ClientCame G.Checker.accepts K.accepts (world_of self.old) (world_of self.new) place) }
+        ensures { IfOk result (λ place. CameAs G.Checker.accepts K.accepts self.old self.new name.now place) }
     {
         operations_keep_draws::<G::Checker>();
         match self.acts.place(name) {
@@ -116,7 +117,10 @@ impl<'w, G: Scheme, K: RunName> World<'w, G, K> {
 
     /// `restart`: the coordinator is a new one over view 0 alone, and all operations close.
     pub fn restart(&mut self) -> Result<(), NoMemory>
-        ensures { OnOk result (Restarted (world_of self.old) (world_of self.new)) }
+        ensures restarted { OnOk result (Restarted (world_of self.old) (world_of self.new)) }
+        ensures closed { OnOk result (self.new.operations ≡ record { all = self.old.operations.all; names = self.old.operations.names; open_from = length self.old.operations.all }) }
+        ensures names { self.new.names ≡ self.old.names }
+        ensures turns { self.new.turns ≡ self.old.turns }
     {
         let first = self.acts.first().copy(self.alloc)?;
         self.coordinator.restart(first);
@@ -131,8 +135,7 @@ impl<'w, G: Scheme, K: RunName> World<'w, G, K> {
         ClientActs<'w, G::Checker, K>,
         Coordinator<LyingStore, RosterBank<'w, G, K>, G::Checker>,
     )
-        ensures clients { result.0.clients ≡ self.entry.clients }
-        ensures first { result.0.first ≡ self.entry.first }
+        ensures acts { result.0 ≡ acts_of self.entry }
         ensures state { result.1 ≡ self.entry.state }
     {
         let World {

@@ -1,9 +1,12 @@
 -- The ids from 1 to 64.
-use Rattle.std.proofs.Common.{◌≡◌, ℕ, suc, zero, ◌+◌, ◌-◌, ◌≤◌, List, [], ◌∷◌, ◌++◌, sym, ap, ◌∙◌, arith}
-use Rattle.std.specs.Prelude.{Contains}
+use Rattle.std.proofs.Common.{◌≡◌, ℕ, suc, zero, ◌+◌, ◌-◌, ◌<◌, ◌≤◌, Bool, true, false, List, [], ◌∷◌, ◌++◌, length, get_or, Option, None, Some, refl, sym, ap, subst, ◌∙◌, arith}
+use Rattle.std.specs.Prelude.{Contains, ◌==◌, if◌then◌else◌}
+use Rattle.std.specs.Option.{option_map}
+use Rattle.std.proofs.lemmas.Bool.{eq-eqb}
 use Rattle.std.specs.List.{range_with_len}
 use Rattle.std.proofs.lemmas.List.FromFn.{length-range_with_len, get_or-range_with_len}
-use Rattle.world_run.specs.Seals.{all_ids}
+use Rattle.roster_bank.specs.Places.{place_in}
+use Rattle.world_run.specs.Seals.{IsId, all_ids}
 
 pub has_id : (id : ℕ) → 1 ≤ id → id ≤ 64 → Contains all_ids id
 unfolding all_ids
@@ -23,3 +26,22 @@ range_more n =
 pub are_all : (ids : List ℕ) (n : ℕ) → ids ≡ range_with_len 1 n → n ≡ 64 → ids ≡ all_ids
 unfolding all_ids
 are_all ids n is end = is ∙ ap (λ (k : ℕ). range_with_len 1 k) end
+
+-- an id that stands in a list has a place there
+stands_in : (ids : List ℕ) (id i : ℕ) → i < length ids → get_or ids i id ≡ id → place_in ids id ≡ None → ⊥
+stands_in [] id i below is none = absurd (omega (arith, below))
+stands_in (first ∷ ids) id zero below is none = here (first == id) (option_map (λ place. place + 1) (place_in ids id)) (eq-eqb first id is) none where
+  here : (b : Bool) (rest : Option ℕ) → b ≡ true → (if b then Some 0 else rest) ≡ None → ⊥
+  here true rest e none = absurd cc
+  here false rest e none = absurd cc
+stands_in (first ∷ ids) id (suc i) below is none = later (first == id) (place_in ids id) none (stands_in ids id i (omega (arith, below)) is) where
+  later : (b : Bool) (rest : Option ℕ) → (if b then Some 0 else option_map (λ place. place + 1) rest) ≡ None → (rest ≡ None → ⊥) → ⊥
+  later true rest none there = absurd cc
+  later false None none there = there refl
+  later false (Some place) none there = absurd cc
+
+-- each id of a run is one of its members
+pub is_there : (ids : List ℕ) (id : ℕ) → ids ≡ all_ids → IsId id → place_in ids id ≡ None → ⊥
+is_there ids id all is none =
+    let at = has_id id is.0 is.1 in
+    stands_in all_ids id at.0 at.1 at.2 (subst (λ (l : List ℕ). place_in l id ≡ None) all none)

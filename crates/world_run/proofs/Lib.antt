@@ -18,7 +18,11 @@ pub mod PlainBegins
 pub mod PlainScripts
 pub mod PlainFronts
 pub mod RunLines
+pub mod Openings
 pub mod MacKeys
+pub mod NamesStand
+pub mod OperationsStand
+pub mod LinesSaid
 pub mod RunEnds
 pub mod MacRuns
 pub mod Rosters

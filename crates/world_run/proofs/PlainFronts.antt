@@ -111,14 +111,14 @@ module _ {S C : Type 0} (key : S → List ℕ) (left size : S → ℕ) (signs : 
 
   -- some first lines of a plain script print their plain replies
   front_prints : (front rest : List Command) (first last : Run) (printed : List (List ℕ)) → script ≡ front ++ rest → is_plain script ≡ true → HaveLeftFor left_of script → BeginsIt first
-      → Runs key left size signs fit accepts checks front first last printed → printed ≡ replies nothing front
+      → Runs key left size signs fit accepts key_of left_of checks front first last printed → printed ≡ replies nothing front
   unfolding before_first
   front_prints [] rest first last printed split plain have begins runs = runs.1
   front_prints (command ∷ front) rest first last printed split plain have begins runs =
       let fits = runnable.each [] command (front ++ rest) split in
       let within = subst (λ (s : List Command). AreIds (first_ids s)) (sym split) (first_of command (front ++ rest) fits) in
       let counted : asked script ≡ asked (command ∷ front) + asked rest = ap asked split ∙ sum_by-append (λ (c : Command). cond (is_between c) 1 0) (command ∷ front) rest in
-      front_plainly key left size signs fit accepts checks laws texts_of script runnable (command ∷ front) rest first last printed (before_first first begins within have) split
+      front_plainly key left size signs fit accepts key_of left_of checks laws texts_of script runnable (command ∷ front) rest first last printed (before_first first begins within have) split
       (plain_front (command ∷ front) rest (subst (λ (s : List Command). is_plain s ≡ true) split plain)) begins.unbegun (is_before first begins within have) (unbent first begins) refl
       (omega (arith, counted)) runs
 

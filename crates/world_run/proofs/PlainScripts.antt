@@ -99,7 +99,7 @@ ended_at (command ∷ before) = either (is_end command) (has_ended (before ++ En
   either true other is = refl
   either false other is = is
 
-module _ {S C : Type 0} (key : S → List ℕ) (left_in size : S → ℕ) (signs : S → List ℕ → List ℕ → S → Type 0) (fit : S → C → Type 0) (accepts : C → Accepts) (checks : Accepts)
+module _ {S C : Type 0} (key : S → List ℕ) (left_in size : S → ℕ) (signs : S → List ℕ → List ℕ → S → Type 0) (fit : S → C → Type 0) (accepts : C → Accepts) (key_of : ℕ → List ℕ) (left_of : ℕ → ℕ) (checks : Accepts)
     (laws : LineLaws accepts checks (bank_view key left_in accepts)) (texts_of : ℕ → List (List ℕ)) (script : List Command) (runnable : IsRunnable texts_of script) where
   abbrev Run : Type 0
   Run = Running (CellBank S C) C
@@ -118,12 +118,12 @@ module _ {S C : Type 0} (key : S → List ℕ) (left_in size : S → ℕ) (signs
   -- one line prints its plain reply
   line_plainly : (command : Command) (before rest : List Command) (old new : Run) (known : Known) (said : List (List ℕ)) (left : ℕ)
       → script ≡ before ++ command ∷ rest → 1 ≤ length before → IsTied accepts checks lv before (world_of old) known (left + 1) → is_plain_command command ≡ true
-      → DidLine key left_in size signs fit accepts checks old new said command → (said ≡ reply_to known command) × IsTied accepts checks lv (before ++ command ∷ []) (world_of new) (after known command) left
+      → DidLine key left_in size signs fit accepts key_of left_of checks old new said command → (said ≡ reply_to known command) × IsTied accepts checks lv (before ++ command ∷ []) (world_of new) (after known command) left
   line_plainly (Genesis ids) before rest old new known said left split some tied plain did = absurd (first_one before ids some (runnable.each before (Genesis ids) rest split))
   line_plainly (Plain request) before rest old new known said left split some tied plain did =
-      let got = laws.request texts_of script before rest request did.asking (world_of new) known did.place left did.line runnable split (came_tied before (world_of old) did.asking did.place (left + 1) known tied did.came) did.does in
+      let got = laws.request texts_of script before rest request (world_of did.asking) (world_of new) known did.place left did.line runnable split (came_tied before (world_of old) (world_of did.asking) did.place (left + 1) known tied did.came.came) did.does in
       (did.one ∙ ap (λ (l : List ℕ). l ∷ []) got.0, got.1)
-  line_plainly Restart before rest old new known said left split some tied plain did = (did.1, laws.restart texts_of script before rest (world_of old) (world_of new) known left runnable split tied did.0)
+  line_plainly Restart before rest old new known said left split some tied plain did = (did.1, laws.restart texts_of script before rest (world_of old) (world_of new) known left runnable split tied did.0.restarted)
   line_plainly End before rest old new known said left split some tied plain did =
       (did.1, subst (λ (w : Run). IsTied accepts checks lv (before ++ End ∷ []) (world_of w) known left) (sym did.0) (laws.end texts_of script before rest (world_of old) known left runnable split tied))
   line_plainly (Begin op request) before rest old new known said left split some tied plain did = absurd cc
@@ -177,13 +177,13 @@ module _ {S C : Type 0} (key : S → List ℕ) (left_in size : S → ℕ) (signs
       let no : true ≡ false = sym (ended_at before) ∙ fits.going in
       absurd cc
 
-  end_plainly : (old new : Run) (known : Known) (printed : List (List ℕ)) → Runs key left_in size signs fit accepts checks (End ∷ []) old new printed → printed ≡ replies known (End ∷ [])
+  end_plainly : (old new : Run) (known : Known) (printed : List (List ℕ)) → Runs key left_in size signs fit accepts key_of left_of checks (End ∷ []) old new printed → printed ≡ replies known (End ∷ [])
   end_plainly old new known printed runs = runs.5 ∙ ap (λ (l : List (List ℕ)). l ++ runs.2) runs.3.1 ∙ runs.4.1
 
   -- from where a run is tied to what is known, it prints the plain replies
   lines_plainly : (front before rest : List Command) (old new : Run) (known : Known) (printed : List (List ℕ)) (left : ℕ)
       → script ≡ before ++ (front ++ rest) → 1 ≤ length before → IsTied accepts checks lv before (world_of old) known (left + asked front) → is_plain front ≡ true
-      → Runs key left_in size signs fit accepts checks front old new printed → printed ≡ replies known front
+      → Runs key left_in size signs fit accepts key_of left_of checks front old new printed → printed ≡ replies known front
   lines_plainly [] before rest old new known printed left split some tied plain runs = runs.1
   lines_plainly (command ∷ front) before rest old new known printed left split some tied plain runs =
       by_kind (kind_of command before (front ++ rest) split some plainly.0)
@@ -211,7 +211,7 @@ module _ {S C : Type 0} (key : S → List ℕ) (left_in size : S → ℕ) (signs
         by_kind (inr ended) others =
             let nothing_more : front ≡ [] = none_after before front rest (subst (λ (c : Command). script ≡ (before ++ c ∷ []) ++ (front ++ rest)) ended split_then) in
             let last : command ∷ front ≡ End ∷ [] = ap₂ (λ (c : Command) (l : List Command). c ∷ l) ended nothing_more in
-            subst (λ (l : List Command). Runs key left_in size signs fit accepts checks l old new printed → printed ≡ replies known l) (sym last) (end_plainly old new known printed) runs
+            subst (λ (l : List Command). Runs key left_in size signs fit accepts key_of left_of checks l old new printed → printed ≡ replies known l) (sym last) (end_plainly old new known printed) runs
 
   -- what the first line of a run prints that was begun so
   begin_plainly : (ids : List ℕ) (old middle : Run) (said : List (List ℕ)) (first : BeforeFirst) → (did : DidGenesis key left_in size signs fit accepts checks old middle said ids) → IsUnbegun (world_of old)
@@ -242,7 +242,7 @@ module _ {S C : Type 0} (key : S → List ℕ) (left_in size : S → ℕ) (signs
   from_genesis : (ids : List ℕ) (front rest : List Command) (old new : Run) (printed : List (List ℕ)) (first : BeforeFirst)
       → IsUnbegun (world_of old) → IsBeforeFirst accepts lying_view lv old.state first → NeitherLiesNorFails (held_in old.state.store)
       → first.accepts ≡ checks → asked (Genesis ids ∷ front) ≤ first.left → script ≡ Genesis ids ∷ (front ++ rest) → is_plain (Genesis ids ∷ front) ≡ true
-      → Runs key left_in size signs fit accepts checks (Genesis ids ∷ front) old new printed → printed ≡ replies nothing (Genesis ids ∷ front)
+      → Runs key left_in size signs fit accepts key_of left_of checks (Genesis ids ∷ front) old new printed → printed ≡ replies nothing (Genesis ids ∷ front)
   from_genesis ids front rest old new printed first unbegun fresh unbent same enough split plain runs =
       let began = begin_plainly ids old runs.0 runs.1 first runs.3 unbegun fresh unbent in
       let count : asked (Genesis ids ∷ front) ≡ 0 + asked front = counted (Genesis ids) front false refl in
@@ -256,10 +256,10 @@ module _ {S C : Type 0} (key : S → List ℕ) (left_in size : S → ℕ) (signs
 
   pub front_plainly : (front rest : List Command) (old new : Run) (printed : List (List ℕ)) (first : BeforeFirst)
       → script ≡ front ++ rest → is_plain front ≡ true → IsUnbegun (world_of old) → IsBeforeFirst accepts lying_view lv old.state first → NeitherLiesNorFails (held_in old.state.store)
-      → first.accepts ≡ checks → asked front ≤ first.left → Runs key left_in size signs fit accepts checks front old new printed → printed ≡ replies nothing front
+      → first.accepts ≡ checks → asked front ≤ first.left → Runs key left_in size signs fit accepts key_of left_of checks front old new printed → printed ≡ replies nothing front
   front_plainly [] rest old new printed first split plain unbegun fresh unbent same enough runs = runs.1
   front_plainly (command ∷ front) rest old new printed first split plain unbegun fresh unbent same enough runs =
       let fits = runnable.each [] command (front ++ rest) split in
       let genesis = genesis_of command fits.first in
-      subst (λ (c : Command). asked (c ∷ front) ≤ first.left → script ≡ c ∷ (front ++ rest) → is_plain (c ∷ front) ≡ true → Runs key left_in size signs fit accepts checks (c ∷ front) old new printed → printed ≡ replies nothing (c ∷ front))
+      subst (λ (c : Command). asked (c ∷ front) ≤ first.left → script ≡ c ∷ (front ++ rest) → is_plain (c ∷ front) ≡ true → Runs key left_in size signs fit accepts key_of left_of checks (c ∷ front) old new printed → printed ≡ replies nothing (c ∷ front))
       (sym genesis.1) (λ few. from_genesis genesis.0 front rest old new printed first unbegun fresh unbent same few) enough split plain runs

@@ -18,6 +18,7 @@ use Rattle.world_run.specs.Printing.{RanAndPut, RanFrontAndPut}
 use Rattle.world_run.specs.Replayed.{Begins, HaveLeftFor, Prints, PrintsFirst, PrintsFront, Replayed, first_ids}
 use Rattle.world_run.specs.Roster.{KeysAreApart, all_members, members_by}
 use Rattle.world_run.specs.Runs.{AllCanRun, Runs}
+use Rattle.world_run.proofs.LinesSaid.{one_line_each}
 
 -- what fits can be run
 pub can_run : (earlier commands : List Command) → AllFit earlier commands → AllCanRun commands
@@ -56,34 +57,54 @@ module _ {S C : Type 0} (key : S → List ℕ) (left size : S → ℕ) (signs : 
   pub nothing_put : PlainLaws → (put : List (List ℕ) → Type 0) → put [] → FirstPut put
   nothing_put laws put was = ([], first_put laws [] (inl refl), was)
 
-  module _ (commands : List Command) (same : commands ≡ script) (first : Running (CellBank S C) C) (begins : Begins key left accepts key_of left_of checks (first_ids script) first) where
+  module _ (commands : List Command) (same : commands ≡ script) (fits : AllFit [] script) (first : Running (CellBank S C) C) (begins : Begins key left accepts key_of left_of checks (first_ids script) first) where
     -- some first lines were done
-    pub front_put : PlainLaws → (put : List (List ℕ) → Type 0) → RanFrontAndPut key left size signs fit accepts checks commands first put → FirstPut put
+    pub front_put : PlainLaws → (put : List (List ℕ) → Type 0) → RanFrontAndPut key left size signs fit accepts key_of left_of checks commands first put → FirstPut put
     front_put laws put ran = (
       ran.ran.0,
-      first_put laws ran.ran.0 (inr (record { first = first; last = ran.last; begins = begins; front = ran.front; rest = ran.rest; split = sym same ∙ ran.split; runs = ran.ran.1 })),
+      first_put laws ran.ran.0 (inr (record {
+        first = first;
+        last = ran.last;
+        begins = begins;
+        front = ran.front;
+        rest = ran.rest;
+        split = sym same ∙ ran.split;
+        runs = ran.ran.1;
+        lines = one_line_each key left size signs fit accepts key_of left_of checks script ran.front ran.rest first ran.last ran.ran.0 fits (sym same ∙ ran.split) begins.operations ran.ran.1;
+      })),
       ran.ran.2,
     )
 
     -- all lines were done, and no record was made
-    pub all_put : PlainLaws → (last : Running (CellBank S C) C) (put : List (List ℕ) → Type 0) → RanAndPut key left size signs fit accepts checks commands first last put → FirstPut put
+    pub all_put : PlainLaws → (last : Running (CellBank S C) C) (put : List (List ℕ) → Type 0) → RanAndPut key left size signs fit accepts key_of left_of checks commands first last put → FirstPut put
     all_put laws last put ran = (
       ran.0,
-      first_put laws ran.0 (inr (record { first = first; last = last; begins = begins; front = commands; rest = []; split = sym same ∙ sym (append-nil commands); runs = ran.1 })),
+      first_put laws ran.0 (inr (record {
+        first = first;
+        last = last;
+        begins = begins;
+        front = commands;
+        rest = [];
+        split = sym same ∙ sym (append-nil commands);
+        runs = ran.1;
+        lines = one_line_each key left size signs fit accepts key_of left_of checks script commands [] first last ran.0 fits (sym same ∙ sym (append-nil commands)) begins.operations ran.1;
+      })),
       ran.2,
     )
 
     -- all lines were done, and this is the record
-    pub all_recorded : PlainLaws → (last : Running (CellBank S C) C) (made : Record) (put : List (List ℕ) → Type 0) → RanAndPut key left size signs fit accepts checks commands first last put
+    pub all_recorded : PlainLaws → (last : Running (CellBank S C) C) (made : Record) (put : List (List ℕ) → Type 0) → RanAndPut key left size signs fit accepts key_of left_of checks commands first last put
         → map calls_of made.cells ≡ map calls_of (lists_of last.state.link.cells) → map acts_of made.passes ≡ map (λ client. acts_of client.lines) last.clients
         → made.roster ≡ all_members key_of → made.genesis ≡ members_by key_of (first_ids script)
         → (printed : List (List ℕ)) × Prints key left size signs fit accepts key_of left_of checks script made printed × put printed
     all_recorded laws last made put ran cells passes roster genesis =
+        let did_all = subst (λ (lines : List Command). Runs key left size signs fit accepts key_of left_of checks lines first last ran.0) same ran.1 in
         let did : Replayed key left size signs fit accepts key_of left_of checks script made ran.0 = record {
           first = first;
           last = last;
           begins = begins;
-          runs = subst (λ (lines : List Command). Runs key left size signs fit accepts checks lines first last ran.0) same ran.1;
+          runs = did_all;
+          lines = one_line_each key left size signs fit accepts key_of left_of checks script script [] first last ran.0 fits (sym (append-nil script)) begins.operations did_all;
           cells = cells;
           passes = passes;
           roster = roster;

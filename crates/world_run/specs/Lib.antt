@@ -6,5 +6,6 @@ pub mod Tied
 pub mod Roster
 pub mod Runs
 pub mod Printing
+pub mod LinesSaid
 pub mod Replayed
 pub mod Printed

@@ -16,14 +16,14 @@ Wrote before now printed = Appends before now (concat printed)
 abbrev pub WroteFront : Option (List ℕ) → Option (List ℕ) → List (List ℕ) → Type 0
 WroteFront before now printed = (n : ℕ) × Appends before now (take n (concat printed))
 
-module _ {S C : Type 0} (key : S → List ℕ) (left size : S → ℕ) (signs : S → List ℕ → List ℕ → S → Type 0) (fit : S → C → Type 0) (accepts : C → Accepts) (checks : Accepts) where
+module _ {S C : Type 0} (key : S → List ℕ) (left size : S → ℕ) (signs : S → List ℕ → List ℕ → S → Type 0) (fit : S → C → Type 0) (accepts : C → Accepts) (key_of : ℕ → List ℕ) (left_of : ℕ → ℕ) (checks : Accepts) where
   -- the line did so and printed what was put so
   abbrev pub DidAndPut : Command → Running (CellBank S C) C → Running (CellBank S C) C → (List (List ℕ) → Type 0) → Type 0
-  DidAndPut command old new put = (said : List (List ℕ)) × DidLine key left size signs fit accepts checks old new said command × put said
+  DidAndPut command old new put = (said : List (List ℕ)) × DidLine key left size signs fit accepts key_of left_of checks old new said command × put said
 
   -- the lines were run and printed what was put so
   abbrev pub RanAndPut : List Command → Running (CellBank S C) C → Running (CellBank S C) C → (List (List ℕ) → Type 0) → Type 0
-  RanAndPut commands old new put = (printed : List (List ℕ)) × Runs key left size signs fit accepts checks commands old new printed × put printed
+  RanAndPut commands old new put = (printed : List (List ℕ)) × Runs key left size signs fit accepts key_of left_of checks commands old new printed × put printed
 
   -- some first lines were run and printed what was put so
   pub record RanFrontAndPut (commands : List Command) (old : Running (CellBank S C) C) (put : List (List ℕ) → Type 0) : Type 0 where

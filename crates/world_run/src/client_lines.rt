@@ -5,11 +5,11 @@ ghost use Rattle.fault_script.specs.Limits.{is_served};
 ghost use Rattle.fault_script.specs.Seen.{request_of};
 ghost use Rattle.fault_script.specs.Within.{IsRequestWithin};
 ghost use Rattle.endorser_cell.specs.CellBank.{bank_view};
+ghost use Rattle.script_world.specs.Carried.{CameAs, KeepsNames};
 ghost use Rattle.script_world.specs.Going.{GoesOn};
-ghost use Rattle.script_world.specs.Lines.{ClientCame};
 ghost use Rattle.script_world.specs.Running.{world_of};
 ghost use Rattle.world_run.specs.PlainRun.{Does};
-ghost use Rattle.world_run.specs.Runs.{Began, DidBegin, DidRequest, said_in};
+ghost use Rattle.world_run.specs.Runs.{Began, DidBegin, DidRequest, Opens, client_in, said_in};
 
 use crate::seals::Seals;
 use fault_script::Act;
@@ -20,7 +20,9 @@ use seal::{Checker, Scheme, Signer};
 use std::alloc::Global;
 
 /// The name of the client of an act. A reconfigure has none.
-fn client_name(act: &Act) -> &[u8] {
+fn client_name(act: &Act) -> &[u8]
+    ensures { result.now ≡ client_in (request_of act.now) }
+{
     match act {
         Act::New { client, .. } => client.bytes(),
         Act::Append { client, .. } => client.bytes(),
@@ -38,7 +40,7 @@ fn client_of<M: Seals, N: RunName>(
     act: &Act,
 ) -> Result<usize, NoMemory>
     requires checks { M.accepts seals.now ≡ N.accepts }
-    ensures came { IfOk result (λ place. ClientCame M.Scheme.Checker.accepts N.accepts (world_of world.old) (world_of world.new) place) }
+    ensures came { IfOk result (λ place. CameAs M.Scheme.Checker.accepts N.accepts world.old world.new (client_in (request_of act.now)) place) }
     ensures place { IfOk result (λ place. place < length world.new.clients) }
 {
     if let Some(place) = world.client(client_name(act)) {
@@ -58,7 +60,8 @@ fn ask<G: Scheme, N: RunName>(
     requires client { client < length world.old.clients }
     requires served { is_served (Plain (request_of act.now)) ≡ true }
     requires within { IsRequestWithin (request_of act.now) }
-    ensures { IfOk result (λ line. Does G.Checker.accepts (bank_view G.Signer.key_of G.Signer.left_of G.Checker.accepts) (world_of world.old) (world_of world.new) client (request_of act.now) line.bytes) }
+    ensures does { IfOk result (λ line. Does G.Checker.accepts (bank_view G.Signer.key_of G.Signer.left_of G.Checker.accepts) (world_of world.old) (world_of world.new) client (request_of act.now) line.bytes) }
+    ensures keeps { KeepsNames world.old world.new }
 {
     match act {
         Act::New { label, payload, .. } => {
@@ -103,6 +106,7 @@ fn begin<G: Scheme, N: RunName>(
     requires served { is_served (Plain (request_of act.now)) ≡ true }
     requires within { IsRequestWithin (request_of act.now) }
     ensures began { OnOk result (Began (world_of world.old) (world_of world.new) client (request_of act.now)) }
+    ensures opens { OnOk result (Opens world.old world.new client op.now (request_of act.now)) }
     ensures goes { OnOk result (GoesOn (world_of world.old) (world_of world.new)) }
 {
     match act {
@@ -132,7 +136,7 @@ pub(crate) fn run_begin<M: Seals, N: RunName>(
     requires checks { M.accepts seals.now ≡ N.accepts }
     requires served { is_served (Plain (request_of act.now)) ≡ true }
     requires within { IsRequestWithin (request_of act.now) }
-    ensures { IfOk result (λ said. DidBegin M.Scheme.Signer.key_of M.Scheme.Signer.left_of M.Scheme.Signer.size_of M.Scheme.Signer.signs M.Scheme.fits M.Scheme.Checker.accepts N.accepts world.old world.new (said_in said) (request_of act.now)) }
+    ensures { IfOk result (λ said. DidBegin M.Scheme.Signer.key_of M.Scheme.Signer.left_of M.Scheme.Signer.size_of M.Scheme.Signer.signs M.Scheme.fits M.Scheme.Checker.accepts N.accepts world.old world.new (said_in said) op.now (request_of act.now)) }
 {
     let client = client_of(alloc, seals, world, act)?;
     begin(world, op, client, act)?;

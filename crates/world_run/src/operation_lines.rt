@@ -1,7 +1,8 @@
 // Operations that were begun and go on, and replies that are made up for them.
-ghost use Rattle.std.specs.Prelude.{◌≡◌, [], IfOk};
+ghost use Rattle.std.specs.Prelude.{◌≡◌, map, IfOk};
+ghost use Rattle.std.specs.List.{AllByRecursion};
 ghost use Rattle.fault_script.specs.Within.{AreIds};
-ghost use Rattle.world_run.specs.Runs.{Stepped, Told, said_in};
+ghost use Rattle.world_run.specs.Runs.{DidFinish, DidForge, DidOffer, DidRetry, DidStep, said_in};
 
 use crate::seals::Seals;
 use nim_base::{NoMemory, Text};
@@ -16,7 +17,7 @@ pub(crate) fn step<G: Scheme, N: RunName>(
     op: &[u8],
     n: u64,
 ) -> Result<Option<Text>, NoMemory>
-    ensures { IfOk result (λ said. Stepped world.old world.new × (said_in said ≡ [])) }
+    ensures { IfOk result (λ said. DidStep G.Signer.key_of G.Signer.left_of G.Signer.size_of G.Signer.signs G.fits G.Checker.accepts N.accepts world.old world.new (said_in said) op.now n) }
 {
     world.step(op, n);
     Ok(None)
@@ -27,7 +28,7 @@ pub(crate) fn finish<G: Scheme, N: RunName>(
     world: &mut World<'_, G, N>,
     op: &[u8],
 ) -> Result<Option<Text>, NoMemory>
-    ensures { IfOk result (λ said. Told world.old world.new (said_in said)) }
+    ensures { IfOk result (λ said. DidFinish G.Signer.key_of G.Signer.left_of G.Signer.size_of G.Signer.signs G.fits G.Checker.accepts N.accepts world.old world.new (said_in said) op.now) }
 {
     world.finish(op)
 }
@@ -37,7 +38,7 @@ pub(crate) fn retry<G: Scheme, N: RunName>(
     world: &mut World<'_, G, N>,
     op: &[u8],
 ) -> Result<Option<Text>, NoMemory>
-    ensures { IfOk result (λ said. Told world.old world.new (said_in said)) }
+    ensures { IfOk result (λ said. DidRetry G.Signer.key_of G.Signer.left_of G.Signer.size_of G.Signer.signs G.fits G.Checker.accepts N.accepts world.old world.new (said_in said) op.now) }
 {
     world.retry(op)
 }
@@ -48,7 +49,7 @@ pub(crate) fn offer<G: Scheme, N: RunName>(
     op: &[u8],
     ids: &[u32],
 ) -> Result<Option<Text>, NoMemory>
-    ensures { IfOk result (λ said. Told world.old world.new (said_in said)) }
+    ensures { IfOk result (λ said. DidOffer G.Signer.key_of G.Signer.left_of G.Signer.size_of G.Signer.signs G.fits G.Checker.accepts N.accepts world.old world.new (said_in said) op.now ids.now) }
 {
     world.offer(op, ids)
 }
@@ -60,6 +61,8 @@ fn signers_of<M: Seals>(
     ids: &[u32],
 ) -> Result<Vec<MemberSigner<<M::Scheme as Scheme>::Signer>>, NoMemory>
     requires { AreIds ids.now }
+    ensures ids { IfOk result (λ signers. map (λ signer. signer.id) signers.items ≡ ids.now) }
+    ensures keys { IfOk result (λ signers. AllByRecursion (λ signer. (M.Scheme.Signer.key_of signer.signer ≡ M.key_of seals.now signer.id) × (M.Scheme.Signer.left_of signer.signer ≡ M.left_of seals.now signer.id)) signers.items) }
 {
     let mut signers = Vec::with_capacity(alloc, ids.len())?;
     for id in ids {
@@ -79,7 +82,7 @@ pub(crate) fn forge<M: Seals, N: RunName>(
     ids: &[u32],
 ) -> Result<Option<Text>, NoMemory>
     requires { AreIds ids.now }
-    ensures { IfOk result (λ said. Told world.old world.new (said_in said)) }
+    ensures { IfOk result (λ said. DidForge M.Scheme.Signer.key_of M.Scheme.Signer.left_of M.Scheme.Signer.size_of M.Scheme.Signer.signs M.Scheme.fits M.Scheme.Checker.accepts (M.key_of seals.now) (M.left_of seals.now) N.accepts world.old world.new (said_in said) op.now count ids.now) }
 {
     let signers = signers_of(alloc, seals, ids)?;
     world.forge(op, count, signers)

@@ -1,11 +1,13 @@
 // Endorsers that are asked directly.
-ghost use Rattle.std.specs.Prelude.{◌≤◌, ◌<◌, ◌^◌, length, IfOk};
+ghost use Rattle.std.specs.Prelude.{◌≡◌, ◌≤◌, ◌<◌, ◌^◌, length, IfOk};
+ghost use Rattle.statement.specs.Config.{ids};
 ghost use Rattle.port.specs.Call.{Latest, Show};
 ghost use Rattle.script_world.specs.Labels.{handle_for};
 ghost use Rattle.script_world.specs.Nonce.{nonce};
 ghost use Rattle.script_world.specs.Raw.{AnsweredRaw, AppendedRaw};
 ghost use Rattle.script_world.specs.Running.{world_of};
 ghost use Rattle.world_run.specs.Runs.{DidRaw, said_in};
+ghost use Rattle.world_run.specs.Seals.{IsId, all_ids};
 
 use nim_base::{NoMemory, Text};
 use roster_bank::RunName;
@@ -21,6 +23,8 @@ pub(crate) fn raw_append<G: Scheme, N: RunName>(
     payload: &[u8],
     number: u64,
 ) -> Result<Option<Text>, NoMemory>
+    requires members { ids N.members ≡ all_ids }
+    requires id { IsId id }
     requires from { 1 ≤ height }
     requires below { height < 2 ^ 32 }
     requires payload { length payload.now ≤ 65536 }
@@ -37,6 +41,8 @@ pub(crate) fn raw_latest<G: Scheme, N: RunName>(
     label: &[u8],
     number: u64,
 ) -> Result<Option<Text>, NoMemory>
+    requires members { ids N.members ≡ all_ids }
+    requires id { IsId id }
     ensures { IfOk result (λ said. DidRaw G.Signer.key_of G.Signer.left_of G.Signer.size_of G.Signer.signs G.fits G.Checker.accepts N.accepts world.old world.new (said_in said)
         (AnsweredRaw G.Signer.key_of G.Signer.left_of G.Signer.size_of G.Signer.signs G.fits world.old.state.link world.new.state.link id (Latest (handle_for (world_of world.old).labels label.now) (nonce number)))) }
 {
@@ -49,6 +55,8 @@ pub(crate) fn raw_show<G: Scheme, N: RunName>(
     id: u32,
     label: &[u8],
 ) -> Result<Option<Text>, NoMemory>
+    requires members { ids N.members ≡ all_ids }
+    requires id { IsId id }
     ensures { IfOk result (λ said. DidRaw G.Signer.key_of G.Signer.left_of G.Signer.size_of G.Signer.signs G.fits G.Checker.accepts N.accepts world.old world.new (said_in said)
         (AnsweredRaw G.Signer.key_of G.Signer.left_of G.Signer.size_of G.Signer.signs G.fits world.old.state.link world.new.state.link id (Show (handle_for (world_of world.old).labels label.now)))) }
 {

@@ -1,9 +1,9 @@
 // What each kind of line makes of a run, and what it prints.
 ghost use Rattle.std.specs.Prelude.{◌≡◌, [], IfOk};
+ghost use Rattle.statement.specs.Config.{ids};
 ghost use Rattle.fault_script.specs.Seen.{command_of};
-ghost use Rattle.script_world.specs.Lines.{Restarted};
-ghost use Rattle.script_world.specs.Running.{world_of};
-ghost use Rattle.world_run.specs.Runs.{CanRun, DidGenesis, DidLine, said_in};
+ghost use Rattle.world_run.specs.Seals.{all_ids};
+ghost use Rattle.world_run.specs.Runs.{CanRun, DidGenesis, DidLine, DidRestart, said_in};
 
 use crate::client_lines::{run_act, run_begin};
 use crate::fault_lines::{fail, fork, hide, honest, lose, stale};
@@ -34,7 +34,7 @@ fn run_genesis<G: Scheme, N: RunName>(
 }
 
 fn restart<G: Scheme, N: RunName>(world: &mut World<'_, G, N>) -> Result<Option<Text>, NoMemory>
-    ensures { IfOk result (λ said. Restarted (world_of world.old) (world_of world.new) × (said_in said ≡ [])) }
+    ensures { IfOk result (λ said. DidRestart world.old world.new × (said_in said ≡ [])) }
 {
     world.restart()?;
     Ok(None)
@@ -48,8 +48,9 @@ pub(crate) fn run_line<M: Seals, N: RunName>(
     line: &Line,
 ) -> Result<Option<Text>, NoMemory>
     requires checks { M.accepts seals.now ≡ N.accepts }
+    requires members { ids N.members ≡ all_ids }
     requires can_run { CanRun (command_of line.now) }
-    ensures { IfOk result (λ said. DidLine M.Scheme.Signer.key_of M.Scheme.Signer.left_of M.Scheme.Signer.size_of M.Scheme.Signer.signs M.Scheme.fits M.Scheme.Checker.accepts N.accepts world.old world.new (said_in said) (command_of line.now)) }
+    ensures { IfOk result (λ said. DidLine M.Scheme.Signer.key_of M.Scheme.Signer.left_of M.Scheme.Signer.size_of M.Scheme.Signer.signs M.Scheme.fits M.Scheme.Checker.accepts (M.key_of seals.now) (M.left_of seals.now) N.accepts world.old world.new (said_in said) (command_of line.now)) }
 {
     match line {
         Line::Genesis { ids } => run_genesis(alloc, world, ids),

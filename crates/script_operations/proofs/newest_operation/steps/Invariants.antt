@@ -1,5 +1,7 @@
-use Rattle.script_operations.specs.Stepping.{OnlyOutside}
+use Rattle.op_latest.specs.LatestSound.{LatestSound}
+use Rattle.op_latest.specs.LatestState.{is_live}
+use Rattle.script_operations.specs.Stepping.{GoesFor}
 use Rattle.script_operations.proofs.newest_operation.steps.Given as goal
 
 abbrev pub invariant-loop : goal.invariant-loop
-invariant-loop g l = OnlyOutside l.fn.coordinator l.coordinator
+invariant-loop g l = GoesFor g.S.Store.view g.L.Link.view l.fn.coordinator l.coordinator (LatestSound (g.C.Checker.accepts l.fn.coordinator.checker)) is_live l.fn.op l.op l.counter

@@ -15,7 +15,7 @@ returns-clause-asked g c =
     c.args.acts.now c.draw_entry.new.acts c.give_own.new.acts c.args.coordinator.now c.ask_own-answer.new.coordinator c.give_own.new.coordinator c.args.client
     (Draw (nonce_of entry) (Some (bare entry))) (call_for entry) (stood c.ask_own-answer.result)
     (λ checks sides answer. TookOwn checks sides c.args.label.now (bare entry) answer c.in_ok-line.line.bytes)
-    c.see_checkers.ensures c.in_ok-draw.ensures.drew c.ask_own-answer.ensures c.in_ok-line.ensures.took
+    c.see_checkers.ensures c.in_ok-draw.ensures.drew c.ask_own-answer.ensures c.in_ok-line.ensures.took c.in_ok-line.ensures.learned
 
 pub returns-clause-stays : goal.returns-clause-stays
 returns-clause-stays g c =

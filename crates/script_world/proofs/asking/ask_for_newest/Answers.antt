@@ -14,7 +14,7 @@ returns-clause-asked g c =
     c.args.acts.now c.draw_read.new.acts c.give_latest.new.acts c.args.coordinator.now c.latest-answer.new.self c.give_latest.new.coordinator c.args.client
     (Draw nonce None) (Latest handle nonce) (replied c.latest-answer.result)
     (λ checks sides answer. TookLatest checks sides c.args.label.now handle nonce answer c.in_ok-line.line.bytes)
-    c.see_checkers.ensures c.in_ok-draw.ensures.drew c.latest-answer.ensures.says c.in_ok-line.ensures.took
+    c.see_checkers.ensures c.in_ok-draw.ensures.drew c.latest-answer.ensures.says c.in_ok-line.ensures.took c.in_ok-line.ensures.learned
 
 pub returns-clause-stays : goal.returns-clause-stays
 returns-clause-stays g c =

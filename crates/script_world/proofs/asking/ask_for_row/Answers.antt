@@ -11,4 +11,4 @@ returns-clause-asked g c =
     c.args.acts.now c.give_at.new.acts c.args.coordinator.now c.at-answer.new.self c.give_at.new.coordinator c.args.client
     (At handle c.args.height) (stood c.at-answer.result)
     (λ checks sides answer. TookAt checks sides c.args.label.now handle c.args.height answer c.in_ok-line.line.bytes)
-    c.see_checkers.ensures c.at-answer.ensures.says c.in_ok-line.ensures.took
+    c.see_checkers.ensures c.at-answer.ensures.says c.in_ok-line.ensures.took c.in_ok-line.ensures.learned

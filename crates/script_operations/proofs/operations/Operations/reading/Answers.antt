@@ -1,9 +1,14 @@
 use Rattle.script_operations.specs.declared.reading.Reading.{Reading}
-use Rattle.script_operations.specs.Task.{Newest, task_of}
-use Rattle.script_operations.proofs.Tasks.{among, seen_at}
+use Rattle.script_operations.specs.Task.{Newest}
+use Rattle.script_operations.proofs.Named.{one_reads, one_reads_not}
 use Rattle.script_operations.proofs.operations.Operations.reading.Goals as goal
 
-pub returns-in-Some : goal.returns-in-Some
-returns-in-Some c =
-    among c.reading.result (λ (reading : Reading) draw. Newest reading.client draw reading.handle reading.nonce) c.args.self.now c.in-Some.place (task_of c.index.result.now)
-    (seen_at task_of c.self.inside.operations.items c.args.self.now c.in-Some.place c.index.result.now c.self.view_is c.in-Some.ensures c.index.ensures) c.reading.ensures
+pub returns-in-Some-clause-some : goal.returns-in-Some-clause-some
+returns-in-Some-clause-some c =
+    one_reads c.self.inside.operations.items c.self.inside.names c.self.inside.open_from c.args.self.now c.self.view_is c.in-Some.place c.index.result.now c.in-Some.ensures.some.0 c.index.ensures c.args.name.now c.in-Some.ensures.some.1
+    (λ (reading : Reading) draw. Newest reading.client draw reading.handle reading.nonce) c.reading.result c.in-Some.ensures.some.2 c.reading.ensures.some
+
+pub returns-in-Some-clause-none : goal.returns-in-Some-clause-none
+returns-in-Some-clause-none c =
+    one_reads_not c.self.inside.operations.items c.self.inside.names c.self.inside.open_from c.args.self.now c.self.view_is c.in-Some.place c.index.result.now c.in-Some.ensures.some.0 c.index.ensures c.args.name.now c.in-Some.ensures.some.1
+    c.reading.result c.reading.ensures.none

@@ -1,3 +1,11 @@
+use Rattle.std.proofs.Common.{refl}
+use Rattle.nim_base.specs.declared.text.Text.{Text}
+use Rattle.chain_block.specs.Entry.{bare}
+use Rattle.endorser_cell.specs.CellBank.{bank_view}
+use Rattle.port.specs.Service.{stood}
+use Rattle.answer_lines.specs.Asking.{call_for}
+use Rattle.script_operations.specs.Task.{Own}
+use Rattle.script_operations.proofs.Answering.{call_bare, done_asked, own_asked, opened}
 use Rattle.script_operations.proofs.Staying.{within}
 use Rattle.script_operations.proofs.own_operation.OwnAsked.retry.Goals as goal
 
@@ -6,3 +14,13 @@ is_answered-requires g c = record { place = within c.args.acts.now.clients c.arg
 
 pub returns-then-is_answered-clause-stays : goal.returns-then-is_answered-clause-stays
 returns-then-is_answered-clause-stays g c = c.clients_stay_on.ensures.same c.args.acts.now
+
+pub returns-then-is_answered-clause-asks : goal.returns-then-is_answered-clause-asks
+returns-then-is_answered-clause-asks g c =
+    done_asked (λ (text : Text). text.bytes) g.K.RunName.accepts c.args.name.now c.args.self.now.label.bytes c.args.acts.now c.args.acts.now c.args.coordinator.now c.args.coordinator.now c.done_line.result
+    (Own c.args.self.now.client c.args.self.now.draw (bare c.args.self.now.entry)) (c.requires.0.0, c.requires.0.1, (c.is_answered.ensures c.requires.0.0 c.requires.0.1).0 c.if-is_answered.true) c.done_line.ensures refl refl g.G.Checker.Checker.accepts g.S.Store.view (bank_view g.G.Signer.Signer.key_of g.G.Signer.Signer.left_of g.G.Checker.Checker.accepts)
+
+pub returns-clause-asks : goal.returns-clause-asks
+returns-clause-asks g c =
+    own_asked (λ (text : Text). text.bytes) g.K.RunName.accepts c.args.name.now c.args.self.now.label.bytes c.args.acts.now c.give_own.new.acts c.ask_own-answer.new.coordinator c.give_own.new.coordinator c.give_own.result
+    g.G.Checker.Checker.accepts g.S.Store.view (bank_view g.G.Signer.Signer.key_of g.G.Signer.Signer.left_of g.G.Checker.Checker.accepts) c.args.coordinator.now c.give_own.ensures.learned c.args.self.now.client c.args.self.now.draw (bare c.args.self.now.entry) (call_for c.args.self.now.entry) (stood c.ask_own-answer.result) (opened c.args.acts.now.clients c.args.self.now.client c.args.self.now.draw c.is_answered.result c.is_answered.ensures c.if-is_answered.false) (call_bare c.args.self.now.entry) c.ask_own-answer.ensures c.bytes.result.now c.bytes.ensures c.give_own.ensures.took

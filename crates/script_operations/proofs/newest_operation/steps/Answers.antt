@@ -1,0 +1,26 @@
+use Rattle.std.proofs.Common.{ℕ, subst, arith}
+use Rattle.op_latest.specs.LatestSound.{LatestSound}
+use Rattle.op_latest.specs.LatestState.{is_live}
+use Rattle.script_operations.specs.Stepping.{GoesFor}
+use Rattle.script_operations.proofs.Leading.{goes_for, goes_for_nothing, goes_to_end}
+use Rattle.script_operations.proofs.newest_operation.steps.Goals as goal
+
+pub loop-init : goal.loop-init
+loop-init g c = goes_for_nothing g.S.Store.view g.L.Link.view g.C.Checker.accepts LatestSound is_live c.args.coordinator.now c.args.op.now
+
+pub loop-preserved : goal.loop-preserved
+loop-preserved g c =
+    goes_for g.S.Store.view g.L.Link.view g.C.Checker.accepts LatestSound is_live c.args.coordinator.now c.loop.coordinator c.step_latest.new.self
+    c.args.op.now c.loop.op c.step_latest.new.op c.step_latest.ensures.call c.step_latest.ensures.ended c.loop.counter c.loop.invariant
+
+pub returns-then-not-step_latest : goal.returns-then-not-step_latest
+returns-then-not-step_latest g c =
+    goes_to_end g.S.Store.view g.L.Link.view g.C.Checker.accepts LatestSound is_live c.args.coordinator.now c.loop.coordinator c.step_latest.new.self
+    c.args.op.now c.loop.op c.step_latest.new.op c.step_latest.ensures.call c.step_latest.ensures.ended c.loop.counter c.args.n c.loop.invariant c.loop-test.true
+    (cc (c.step_latest.ensures.live, c.if-not-step_latest.true))
+
+pub returns : goal.returns
+returns g c =
+    subst
+    (λ (n : ℕ). GoesFor g.S.Store.view g.L.Link.view c.args.coordinator.now c.loop.coordinator (LatestSound (g.C.Checker.accepts c.args.coordinator.now.checker)) is_live c.args.op.now c.loop.op n)
+    (omega (arith, c.loop-test.false, c.loop.auto.counter-end)) c.loop.invariant

@@ -1,0 +1,17 @@
+use Rattle.std.proofs.Common.{◌≡◌, None}
+use Rattle.statement.specs.Config.{ids as ids_of}
+use Rattle.roster_bank.specs.Places.{place_in}
+use Rattle.script_world.specs.Labels.{handle_for}
+use Rattle.script_world.specs.Nonce.{nonce}
+use Rattle.script_world.specs.Raw.{AppendedRaw}
+use Rattle.script_world.specs.Running.{world_of}
+use Rattle.world_run.proofs.Ids.{is_there}
+use Rattle.world_run.proofs.RunLines.{asked_raw}
+use Rattle.world_run.proofs.raw_lines.raw_append.Goals as goal
+
+pub returns : goal.returns
+returns g c =
+    asked_raw g.G.Signer.Signer.key_of g.G.Signer.Signer.left_of g.G.Signer.Signer.size_of g.G.Signer.Signer.signs g.G.Scheme.fits g.G.Checker.Checker.accepts g.N.RunName.accepts c.args.world.now c.raw_append.new.self
+    (AppendedRaw g.G.Signer.Signer.key_of g.G.Signer.Signer.left_of g.G.Signer.Signer.size_of g.G.Signer.Signer.signs g.G.Scheme.fits c.args.world.now.state c.raw_append.new.self.state.link c.args.id (handle_for (world_of c.args.world.now).labels c.args.label.now) c.args.height (nonce c.args.number) c.args.payload.now)
+    (place_in (ids_of g.N.RunName.members) c.args.id ≡ None) (is_there (ids_of g.N.RunName.members) c.args.id c.requires.members c.requires.id)
+    c.raw_append.ensures.rest c.raw_append.result c.raw_append.ensures.answered c.raw_append.ensures.none
