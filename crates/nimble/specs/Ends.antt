@@ -12,7 +12,8 @@ use Rattle.fault_script.specs.Script.{script_of, is_plain}
 use Rattle.client_pass.specs.Record.{Record, IsRecord}
 use Rattle.world_run.specs.Plain.{nothing, replies}
 use Rattle.world_run.specs.Printed.{MacPrints, MacPrintsFront}
-use Rattle.world_run.specs.Seals.{all_ids, mac_texts}
+use Rattle.script_runs.specs.Ids.{all_ids}
+use Rattle.world_run.specs.Seals.{mac_texts}
 use Rattle.world_run.specs.SetUp.{set_up_texts}
 use Rattle.nimble.specs.Lines.{bad_line, exhibit_line}
 

@@ -8,5 +8,6 @@ pub mod Running
 pub mod Held
 pub mod Faults
 pub mod Raw
+pub mod Served
 pub mod Signed
 pub mod Carried

@@ -36,6 +36,8 @@ impl<'w, G: Scheme, K: RunName> World<'w, G, K> {
         ensures rest { OnlyStore self.old self.new }
         ensures due { (held_in self.new.state.store).due ≡ min ((held_in self.old.state.store).due + n) (2 ^ 64 - 1 - (lying_view self.old.state.store).faults) }
         ensures contents { (held_in self.new.state.store).contents ≡ (held_in self.old.state.store).contents }
+        ensures source { (held_in self.new.state.store).source ≡ (held_in self.old.state.store).source }
+        ensures forks { (held_in self.new.state.store).forks ≡ (held_in self.old.state.store).forks }
         ensures goes { GoesOn (world_of self.old) (world_of self.new) }
     {
         self.coordinator.store_mut().fail_next(n);

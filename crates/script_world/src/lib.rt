@@ -9,6 +9,7 @@
 //!   [`World::retry`] carry on. [`World::offer`] and [`World::forge`] give its client a reply that the service didn't give.
 //! - [`World::restart`] begins the coordinator anew. [`World::lose`], [`World::fail_next`], [`World::hide`] and its like, and
 //!   [`World::raw_append`] and its like are what may go wrong.
+//! - [`World::calls_are_kept`] and [`World::lists_are_lawful`] do nothing, and say what is known of the lists that the endorsers keep.
 //!
 //! [`nonce`] gives the nonce of a number; nonces are drawn in the order of their numbers, from 0 on. [`handle_for`] gives the ledger that
 //! a label means.
@@ -31,6 +32,7 @@ mod nonces;
 mod operations;
 mod raw;
 mod reads;
+mod served;
 mod signed;
 mod world;
 

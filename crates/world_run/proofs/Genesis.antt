@@ -14,8 +14,8 @@ use Rattle.fault_script.specs.Within.{AreIds, AreRising}
 use Rattle.view_ledger.specs.declared.view_fault.ViewFault.{ViewFault}
 use Rattle.view_ledger.specs.Extension.{AreGenuine, start_outcome, first_not_genuine}
 use Rattle.view_ledger.specs.Views.{ViewChain}
-use Rattle.world_run.specs.Seals.{all_ids}
-use Rattle.world_run.specs.Roster.{all_members, member_by, members_by}
+use Rattle.script_runs.specs.Ids.{all_ids}
+use Rattle.script_runs.specs.Roster.{all_members, member_by, members_by}
 use Rattle.world_run.proofs.Ids.{has_id}
 
 pub ids_of_members : (key_of : ℕ → List ℕ) (ids : List ℕ) → ids_of (members_by key_of ids) ≡ ids

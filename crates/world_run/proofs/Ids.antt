@@ -6,7 +6,7 @@ use Rattle.std.proofs.lemmas.Bool.{eq-eqb}
 use Rattle.std.specs.List.{range_with_len}
 use Rattle.std.proofs.lemmas.List.FromFn.{length-range_with_len, get_or-range_with_len}
 use Rattle.roster_bank.specs.Places.{place_in}
-use Rattle.world_run.specs.Seals.{IsId, all_ids}
+use Rattle.script_runs.specs.Ids.{IsId, all_ids}
 
 pub has_id : (id : ℕ) → 1 ≤ id → id ≤ 64 → Contains all_ids id
 unfolding all_ids

@@ -15,8 +15,8 @@ use Rattle.script_operations.specs.Operations as progresses
 use Rattle.script_operations.specs.Operations.{Begun, IsOpen, NoneIsNamed, NoneIsOpen, Operations, at_progress, with_begun}
 use Rattle.script_world.specs.Carried.{Finished, NothingOffered, Offered, ReplyOffered, Retried}
 use Rattle.script_world.specs.Running.{Running}
-use Rattle.world_run.specs.LinesSaid.{says_line}
-use Rattle.world_run.specs.Runs.{DidLine, Forges, Opens, Runs, SaysOr}
+use Rattle.script_runs.specs.LinesSaid.{says_line}
+use Rattle.script_runs.specs.Runs.{DidLine, Forges, Opens, Runs, SaysOr}
 use Rattle.world_run.proofs.NamesStand.{Open, StandsAs, Stood, Unbegun, closed, stands_after, stood_after}
 use Rattle.world_run.proofs.OperationsStand.{AreTied, begin_tied, closing_tied, none_tied, not_closed, not_unnamed, not_unread, restart_tied, step_tied}
 

@@ -11,8 +11,9 @@ use Rattle.seal.specs.MacKey.{key_text, mac_key, secret_of, secret_text}
 use Rattle.fault_script.specs.Command.{Command}
 use Rattle.statement.specs.declared.member.Member.{Member}
 use Rattle.least_collision.specs.Collision.{NoCollision}
-use Rattle.world_run.specs.Roster.{KeysAreApart, all_members, member_by}
-use Rattle.world_run.specs.Seals.{all_ids, mac_texts}
+use Rattle.script_runs.specs.Roster.{KeysAreApart, all_members, member_by}
+use Rattle.script_runs.specs.Ids.{all_ids}
+use Rattle.world_run.specs.Seals.{mac_texts}
 use Rattle.world_run.specs.SetUp.{set_up_texts}
 use Rattle.world_run.proofs.Ids.{has_id}
 

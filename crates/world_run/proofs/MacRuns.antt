@@ -7,7 +7,7 @@ use Rattle.seal.specs.MacKey.{mac_key}
 use Rattle.client_pass.specs.Record.{Record}
 use Rattle.world_run.specs.Printed.{MacPrints, MacPrintsFront, mac_fits, mac_left, mac_signs, mac_size}
 use Rattle.world_run.specs.Replayed.{HaveLeftFor, Prints, PrintsFirst, is_between}
-use Rattle.world_run.specs.Seals.{all_ids}
+use Rattle.script_runs.specs.Ids.{all_ids}
 
 pub if_ok : {A E : Type 0} (result : Result A E) {P Q : A → Type 0} → ((value : A) → P value → Q value) → IfOk result P → IfOk result Q
 if_ok (Ok value) more is = more value is

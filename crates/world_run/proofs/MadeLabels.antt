@@ -12,7 +12,7 @@ use Rattle.fault_script.specs.Labels.{label_of, has_label, is_used, makes_used_l
 use Rattle.fault_script.specs.Limits.{is_new}
 use Rattle.world_run.specs.PlainRun.{IsRunnable, is_made, draws_in}
 use Rattle.world_run.specs.SetUp.{made_by, draws_of, first_entry, first_entries, label_text, set_up_texts}
-use Rattle.world_run.specs.Seals.{all_ids}
+use Rattle.script_runs.specs.Ids.{all_ids}
 use Rattle.world_run.proofs.Bytes.{same_bytes, bytes_eq-self}
 use Rattle.world_run.proofs.Nonces.{first_entries-append}
 

@@ -11,7 +11,7 @@ use Rattle.script_world.specs.Carried.{Opened}
 use Rattle.script_world.specs.Labels.{handle_for}
 use Rattle.script_world.specs.Nonce.{nonce}
 use Rattle.script_world.specs.Running.{Running, world_of}
-use Rattle.world_run.specs.Runs.{Began, Opens}
+use Rattle.script_runs.specs.Runs.{Began, Opens}
 use Rattle.world_run.proofs.RunLines.{on_ok}
 
 module _ {L C A E : Type 0} (old new : Running L C) (result : Result A E) (place : ℕ) (op : List ℕ) (act : Act) where

@@ -26,7 +26,8 @@ use Rattle.script_world.specs.Lines.{Restarted, HasClientMore}
 use Rattle.script_world.specs.World.{World}
 use Rattle.world_run.specs.Plain.{Known, after}
 use Rattle.world_run.specs.PlainRun.{IsRunnable}
-use Rattle.world_run.specs.Tied.{AreTied, KnowsFirst, IsTied, IsUnbegun, BeginsTied}
+use Rattle.world_run.specs.Tied.{AreTied, KnowsFirst, IsTied, BeginsTied}
+use Rattle.script_runs.specs.Begins.{IsUnbegun}
 use Rattle.world_run.proofs.CalmRuns.{more_news, some_is, view_chain}
 use Rattle.world_run.proofs.Nonces.{none_in_nothing}
 use Rattle.world_run.proofs.TiedLedgers.{same_ledgers}

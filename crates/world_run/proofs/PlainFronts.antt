@@ -22,10 +22,11 @@ use Rattle.client_pass.specs.Record.{Record}
 use Rattle.script_world.specs.Running.{Running}
 use Rattle.world_run.specs.Plain.{nothing, replies}
 use Rattle.world_run.specs.PlainRun.{IsRunnable}
-use Rattle.world_run.specs.Replayed.{Begins, HaveLeftFor, PrintsFront, Replayed, first_ids, is_between}
-use Rattle.world_run.specs.Roster.{member_by, members_by, share}
-use Rattle.world_run.specs.Runs.{Runs}
-use Rattle.world_run.specs.Seals.{IsId}
+use Rattle.script_runs.specs.Begins.{Begins, first_ids}
+use Rattle.world_run.specs.Replayed.{HaveLeftFor, PrintsFront, Replayed, is_between}
+use Rattle.script_runs.specs.Roster.{member_by, members_by, share}
+use Rattle.script_runs.specs.Runs.{Runs}
+use Rattle.script_runs.specs.Ids.{IsId}
 use Rattle.world_run.proofs.CalmRuns.{some_is}
 use Rattle.world_run.proofs.PlainScripts.{LineLaws, asked, front_plainly, genesis_of, replies_front, both}
 

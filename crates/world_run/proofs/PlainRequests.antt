@@ -5,7 +5,8 @@ use Rattle.port.specs.Link.{LinkView}
 use Rattle.view_ledger.specs.Receipts.{Accepts}
 use Rattle.script_world.specs.World.{World}
 use Rattle.world_run.specs.Plain.{Known, reply_to_request, after_request}
-use Rattle.world_run.specs.PlainRun.{IsRunnable, Does}
+use Rattle.world_run.specs.PlainRun.{IsRunnable}
+use Rattle.script_runs.specs.Runs.{Does}
 use Rattle.world_run.specs.Tied.{IsTied}
 use Rattle.world_run.proofs.CalmRuns.{Laws}
 use Rattle.world_run.proofs.PlainReads.{at_line, newest_read}

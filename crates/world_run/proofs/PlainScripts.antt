@@ -23,10 +23,11 @@ use Rattle.script_world.specs.Lines.{ClientCame, Restarted, HasClientMore}
 use Rattle.script_world.specs.Running.{Running, world_of}
 use Rattle.script_world.specs.World.{World}
 use Rattle.world_run.specs.Plain.{Known, nothing, after, after_request, reply_to, reply_to_request, replies}
-use Rattle.world_run.specs.PlainRun.{IsRunnable, Does}
+use Rattle.world_run.specs.PlainRun.{IsRunnable}
+use Rattle.script_runs.specs.Runs.{Does, DidGenesis, DidLine, Runs, first_line}
 use Rattle.world_run.specs.Replayed.{is_between}
-use Rattle.world_run.specs.Runs.{DidGenesis, DidLine, Runs, first_line}
-use Rattle.world_run.specs.Tied.{IsTied, IsUnbegun, BeginsTied}
+use Rattle.world_run.specs.Tied.{IsTied, BeginsTied}
+use Rattle.script_runs.specs.Begins.{IsUnbegun}
 
 -- the laws of single lines
 pub record LineLaws {L C : Type 0} (accepts : C → Accepts) (checks : Accepts) (lv : L → LinkView) : Type 0 where

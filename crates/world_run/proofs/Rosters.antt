@@ -19,9 +19,9 @@ use Rattle.endorser_cell.specs.Losses.{IsNone}
 use Rattle.endorser_cell.specs.CellBank.{CellBank, bank_of, has_no_line, loses_none, signs_in, told_of}
 use Rattle.calm.specs.Beginning.{IsInState}
 use Rattle.roster_bank.specs.Roster.{AllAccept, members_of}
-use Rattle.world_run.specs.Seals.{IsId, all_ids}
+use Rattle.script_runs.specs.Ids.{IsId, all_ids}
 use Rattle.world_run.proofs.Ids.{are_all, range_more}
-use Rattle.world_run.specs.Roster.{AreNewCells, IsNewBank, IsNewCell, all_members, member_by, members_by, share}
+use Rattle.script_runs.specs.Roster.{AreNewCells, IsNewBank, IsNewCell, all_members, member_by, members_by, share}
 
 -- ids of a range rise
 rises : (before : Option ℕ) (a n : ℕ) → ((b : ℕ) → before ≡ Some b → b < a) → RisesFrom before (range_with_len a n)

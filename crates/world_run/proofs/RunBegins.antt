@@ -11,8 +11,8 @@ use Rattle.endorser_cell.specs.CellBank.{CellBank}
 use Rattle.coordinator.specs.State.{State}
 use Rattle.script_operations.specs.Operations.{Operations}
 use Rattle.script_world.specs.Running.{Running}
-use Rattle.world_run.specs.Replayed.{Begins}
-use Rattle.world_run.specs.Roster.{IsNewBank, all_members, members_by}
+use Rattle.script_runs.specs.Begins.{Begins}
+use Rattle.script_runs.specs.Roster.{IsNewBank, all_members, members_by}
 
 -- the chain of one view
 abbrev pub one_view : List Member → List Member → ViewChain

@@ -8,22 +8,30 @@ use Rattle.statement.specs.declared.member.Member.{Member}
 use Rattle.view_ledger.specs.Receipts.{Accepts}
 use Rattle.view_ledger.specs.Extension.{AreGenuine}
 use Rattle.view_ledger.specs.Views.{ViewChain}
-use Rattle.endorser_cell.specs.CellBank.{CellBank}
+use Rattle.endorser_cell.specs.CellBank.{AreServed, CellBank}
 use Rattle.client_pass.specs.Record.{IsRecord, Record}
-use Rattle.roster_bank.specs.Roster.{lists_of}
+use Rattle.roster_bank.specs.Roster.{IsRoster, lists_of}
 use Rattle.run_record.specs.Stamping.{acts_of, calls_of}
 use Rattle.script_world.specs.Running.{Running}
 use Rattle.world_run.specs.Plain.{nothing, replies}
 use Rattle.world_run.specs.Printing.{RanAndPut, RanFrontAndPut}
-use Rattle.world_run.specs.Replayed.{Begins, HaveLeftFor, Prints, PrintsFirst, PrintsFront, Replayed, first_ids}
-use Rattle.world_run.specs.Roster.{KeysAreApart, all_members, members_by}
-use Rattle.world_run.specs.Runs.{AllCanRun, Runs}
+use Rattle.script_runs.specs.Begins.{Begins, first_ids}
+use Rattle.script_runs.specs.Belongs.{RunsBelong}
+use Rattle.world_run.specs.Replayed.{HaveLeftFor, Prints, PrintsFirst, PrintsFront, Replayed}
+use Rattle.script_runs.specs.Roster.{KeysAreApart, all_members, members_by}
+use Rattle.script_runs.specs.Runs.{AllCanRun, Runs}
 use Rattle.world_run.proofs.LinesSaid.{one_line_each}
 
 -- what fits can be run
 pub can_run : (earlier commands : List Command) → AllFit earlier commands → AllCanRun commands
 can_run earlier [] fit = tt
 can_run earlier (command ∷ commands) fit = ((fit.0.limits, fit.0.served), can_run (earlier ++ command ∷ []) commands fit.1)
+
+-- the same endorsers, by the run's names of their members and of what is accepted
+pub roster_by : {S C : Type 0} (key : S → List ℕ) (accepts : C → Accepts) (members roster : List Member) (agreed checks : Accepts) (bank : CellBank S C) → members ≡ roster → agreed ≡ checks
+    → IsRoster key accepts members agreed bank → IsRoster key accepts roster checks bank
+roster_by key accepts members roster agreed checks bank named same is =
+    subst (λ (accepted : Accepts). IsRoster key accepts roster accepted bank) same (subst (λ (m : List Member). IsRoster key accepts m agreed bank) named is)
 
 -- a record of the run's own members is one by what the run's signers are checked by
 pub made_record : (key_of : ℕ → List ℕ) (ids : List ℕ) (roster members genesis : List Member) (agreed checks : Accepts) (first : ViewChain) (made : Record) → members ≡ all_members key_of → agreed ≡ checks
@@ -59,8 +67,8 @@ module _ {S C : Type 0} (key : S → List ℕ) (left size : S → ℕ) (signs : 
 
   module _ (commands : List Command) (same : commands ≡ script) (fits : AllFit [] script) (first : Running (CellBank S C) C) (begins : Begins key left accepts key_of left_of checks (first_ids script) first) where
     -- some first lines were done
-    pub front_put : PlainLaws → (put : List (List ℕ) → Type 0) → RanFrontAndPut key left size signs fit accepts key_of left_of checks commands first put → FirstPut put
-    front_put laws put ran = (
+    pub front_put : PlainLaws → RunsBelong key left size signs fit accepts key_of left_of checks → (put : List (List ℕ) → Type 0) → RanFrontAndPut key left size signs fit accepts key_of left_of checks commands first put → FirstPut put
+    front_put laws belong put ran = (
       ran.ran.0,
       first_put laws ran.ran.0 (inr (record {
         first = first;
@@ -70,14 +78,15 @@ module _ {S C : Type 0} (key : S → List ℕ) (left size : S → ℕ) (signs : 
         rest = ran.rest;
         split = sym same ∙ ran.split;
         runs = ran.ran.1;
+        belongs = belong script ran.front ran.rest first ran.last ran.ran.0 (sym same ∙ ran.split) (can_run [] script fits) begins ran.ran.1;
         lines = one_line_each key left size signs fit accepts key_of left_of checks script ran.front ran.rest first ran.last ran.ran.0 fits (sym same ∙ ran.split) begins.operations ran.ran.1;
       })),
       ran.ran.2,
     )
 
     -- all lines were done, and no record was made
-    pub all_put : PlainLaws → (last : Running (CellBank S C) C) (put : List (List ℕ) → Type 0) → RanAndPut key left size signs fit accepts key_of left_of checks commands first last put → FirstPut put
-    all_put laws last put ran = (
+    pub all_put : PlainLaws → RunsBelong key left size signs fit accepts key_of left_of checks → (last : Running (CellBank S C) C) (put : List (List ℕ) → Type 0) → RanAndPut key left size signs fit accepts key_of left_of checks commands first last put → FirstPut put
+    all_put laws belong last put ran = (
       ran.0,
       first_put laws ran.0 (inr (record {
         first = first;
@@ -87,24 +96,29 @@ module _ {S C : Type 0} (key : S → List ℕ) (left size : S → ℕ) (signs : 
         rest = [];
         split = sym same ∙ sym (append-nil commands);
         runs = ran.1;
+        belongs = belong script commands [] first last ran.0 (sym same ∙ sym (append-nil commands)) (can_run [] script fits) begins ran.1;
         lines = one_line_each key left size signs fit accepts key_of left_of checks script commands [] first last ran.0 fits (sym same ∙ sym (append-nil commands)) begins.operations ran.1;
       })),
       ran.2,
     )
 
     -- all lines were done, and this is the record
-    pub all_recorded : PlainLaws → (last : Running (CellBank S C) C) (made : Record) (put : List (List ℕ) → Type 0) → RanAndPut key left size signs fit accepts key_of left_of checks commands first last put
+    pub all_recorded : PlainLaws → RunsBelong key left size signs fit accepts key_of left_of checks → (last : Running (CellBank S C) C) (made : Record) (put : List (List ℕ) → Type 0) → RanAndPut key left size signs fit accepts key_of left_of checks commands first last put
+        → IsRoster key accepts (all_members key_of) checks last.state.link → AreServed last.state.link
         → map calls_of made.cells ≡ map calls_of (lists_of last.state.link.cells) → map acts_of made.passes ≡ map (λ client. acts_of client.lines) last.clients
         → made.roster ≡ all_members key_of → made.genesis ≡ members_by key_of (first_ids script)
         → (printed : List (List ℕ)) × Prints key left size signs fit accepts key_of left_of checks script made printed × put printed
-    all_recorded laws last made put ran cells passes roster genesis =
+    all_recorded laws belong last made put ran bank served cells passes roster genesis =
         let did_all = subst (λ (lines : List Command). Runs key left size signs fit accepts key_of left_of checks lines first last ran.0) same ran.1 in
         let did : Replayed key left size signs fit accepts key_of left_of checks script made ran.0 = record {
           first = first;
           last = last;
           begins = begins;
           runs = did_all;
+          belongs = belong script script [] first last ran.0 (sym (append-nil script)) (can_run [] script fits) begins did_all;
           lines = one_line_each key left size signs fit accepts key_of left_of checks script script [] first last ran.0 fits (sym (append-nil script)) begins.operations did_all;
+          bank = bank;
+          served = served;
           cells = cells;
           passes = passes;
           roster = roster;

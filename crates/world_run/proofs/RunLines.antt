@@ -10,7 +10,7 @@ use Rattle.nim_base.specs.Text.{Content}
 use Rattle.fault_script.specs.Command.{Request, New, Append, Latest, At, Reconfigure, Command, Genesis, Plain, Restart, Begin, Step, Finish, Retry, LoseRequest, LoseReply, StoreFail, StoreHide, StoreStale, StoreFork, StoreHonest, RawAppend, RawLatest, RawShow, RawFinalize, Offer, Forge, End}
 use Rattle.port.specs.Link.{LinkView}
 use Rattle.view_ledger.specs.Receipts.{Accepts}
-use Rattle.endorser_cell.specs.CellBank.{CellBank, bank_view}
+use Rattle.endorser_cell.specs.CellBank.{AreServed, CellBank, bank_view}
 use Rattle.script_world.specs.Going.{GoesOn}
 use Rattle.script_world.specs.Carried.{Forged}
 use Rattle.script_world.specs.Lines.{ClientCame}
@@ -20,13 +20,12 @@ use Rattle.script_world.specs.Nonce.{nonce}
 use Rattle.script_world.specs.Raw.{AnsweredRaw, AppendedRaw, OnlyLink}
 use Rattle.script_world.specs.Running.{Running, world_of}
 use Rattle.script_world.specs.World.{World}
-use Rattle.world_run.specs.PlainRun.{Does}
+use Rattle.script_runs.specs.Runs.{Does, AllCanRun, DidForge, DidLine, DidRaw, Forges, Runs, SaysOr, said_in}
 use Rattle.fault_script.specs.Seen.{command_of, commands_of}
 use Rattle.fault_script.specs.declared.line.Line.{Line}
 use Rattle.fault_script.specs.declared.line.Line.TheVariants as lines
 use Rattle.port.specs.Call as calls
 use Rattle.world_run.specs.Printing.{DidAndPut, RanAndPut, RanFrontAndPut, Wrote, WroteFront}
-use Rattle.world_run.specs.Runs.{AllCanRun, DidForge, DidLine, DidRaw, Forges, Runs, SaysOr, said_in}
 
 -- one line more of some, and all of them in two parts
 lines_more : (lines : List Line) (i : ℕ) (line : Line) → i < length lines → line ≡ get_or lines i line → commands_of (take (i + 1) lines) ≡ commands_of (take i lines) ++ command_of line ∷ []
@@ -126,12 +125,12 @@ all_more P members more member pushed all one = subst (AllByRecursion P) (sym pu
 
 module _ {S C : Type 0} (key : S → List ℕ) (left size : S → ℕ) (signs : S → List ℕ → List ℕ → S → Type 0) (fit : S → C → Type 0) (accepts : C → Accepts) (checks : Accepts) (old new : Running (CellBank S C) C) where
   -- an endorser that there is was asked directly
-  pub asked_raw : {E : Type 0} (answered : List ℕ → Type 0) (absent : Type 0) → (absent → ⊥) → OnlyLink old new → (result : Result (Option Content) E)
+  pub asked_raw : {E : Type 0} (answered : List ℕ → Type 0) (absent : Type 0) → (absent → ⊥) → OnlyLink old new → AreServed old.state.link → new.state.link.fresh ≡ old.state.link.fresh → (result : Result (Option Content) E)
       → IfOk result (λ said. IfSome said (λ line. answered line.bytes)) → IfOk result (λ said. IfNone said absent)
       → IfOk result (λ said. DidRaw key left size signs fit accepts checks old new (said_in said) answered)
-  asked_raw answered absent there rest (Ok (Some line)) is none = record { rest = rest; line = line.bytes; answers = is; one = refl }
-  asked_raw answered absent there rest (Ok None) is none = absurd (there none)
-  asked_raw answered absent there rest (Err fault) is none = tt
+  asked_raw answered absent there rest served fresh (Ok (Some line)) is none = record { rest = rest; served = served; fresh = fresh; line = line.bytes; answers = is; one = refl }
+  asked_raw answered absent there rest served fresh (Ok None) is none = absurd (there none)
+  asked_raw answered absent there rest served fresh (Err fault) is none = tt
 
   module _ (goes : GoesOn (world_of old) (world_of new)) (names : new.names ≡ old.names) (ledgers : new.ledgers ≡ old.ledgers) (draws : new.draws ≡ old.draws) (op : List ℕ) where
     -- the client of a read was given what new signers made

@@ -3,9 +3,6 @@ pub mod Seals
 pub mod SetUp
 pub mod PlainRun
 pub mod Tied
-pub mod Roster
-pub mod Runs
 pub mod Printing
-pub mod LinesSaid
 pub mod Replayed
 pub mod Printed

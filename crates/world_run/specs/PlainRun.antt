@@ -1,15 +1,11 @@
--- A script that is read, whose texts have a digest each, and what a request does at once.
+-- A script that is read, whose texts have a digest each.
 use Rattle.std.specs.Prelude.{◌≡◌, ℕ, ◌+◌, ◌≤◌, Bool, List, [], ◌∷◌, ◌++◌, length, count_by}
 use Rattle.std.specs.List.{flat_map, list_any}
 use Rattle.std.specs.Str.{bytes_eq}
-use Rattle.fault_script.specs.Command.{Request, New, Append, Latest, At, Reconfigure, Command}
+use Rattle.fault_script.specs.Command.{Command}
 use Rattle.fault_script.specs.Limits.{is_new}
 use Rattle.fault_script.specs.Within.{Fits}
-use Rattle.port.specs.Link.{LinkView}
-use Rattle.view_ledger.specs.Receipts.{Accepts}
 use Rattle.least_collision.specs.Collision.{NoCollision}
-use Rattle.script_world.specs.Lines.{MadeLedger, Appended, ReadNewest, ReadHeight}
-use Rattle.script_world.specs.World.{World}
 use Rattle.world_run.specs.SetUp.{draws_of, made_by, set_up_texts}
 
 -- A script as it is read: each command fits after those before it, and there are no more lines, and lines that make a ledger, than there
@@ -28,11 +24,3 @@ draws_in (command ∷ commands) = draws_of command + draws_in commands
 -- whether one of these lines makes a ledger of this label
 abbrev pub is_made : List Command → List ℕ → Bool
 is_made commands label = list_any (bytes_eq label) (flat_map made_by commands)
-
--- what the client at this place asked for was done, and this is the line that says so
-abbrev pub Does : {L C : Type 0} → (C → Accepts) → (L → LinkView) → World L C → World L C → ℕ → Request → List ℕ → Type 0
-Does accepts lv old new place (New client label payload) line = MadeLedger accepts lv old new place label payload line
-Does accepts lv old new place (Append client label height payload) line = Appended accepts lv old new place label height payload line
-Does accepts lv old new place (Latest client label) line = ReadNewest accepts lv old new place label line
-Does accepts lv old new place (At client label height) line = ReadHeight accepts lv old new place label height line
-Does accepts lv old new place (Reconfigure ids) line = ⊥

@@ -7,7 +7,7 @@ use Rattle.seal.specs.MacKey.{mac, mac_key}
 use Rattle.client_pass.specs.Record.{Record}
 use Rattle.world_run.specs.Plain.{nothing, replies}
 use Rattle.world_run.specs.Replayed.{PrintsFront, Replayed}
-use Rattle.world_run.specs.Seals.{all_ids}
+use Rattle.script_runs.specs.Ids.{all_ids}
 
 -- a stand-in always has so many signatures left
 abbrev pub mac_left : ℕ → ℕ

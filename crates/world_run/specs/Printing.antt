@@ -6,7 +6,7 @@ use Rattle.fault_script.specs.Command.{Command}
 use Rattle.view_ledger.specs.Receipts.{Accepts}
 use Rattle.endorser_cell.specs.CellBank.{CellBank}
 use Rattle.script_world.specs.Running.{Running}
-use Rattle.world_run.specs.Runs.{DidLine, Runs}
+use Rattle.script_runs.specs.Runs.{DidLine, Runs}
 
 -- these lines were written, each whole
 abbrev pub Wrote : Option (List ℕ) → Option (List ℕ) → List (List ℕ) → Type 0

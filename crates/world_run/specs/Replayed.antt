@@ -1,27 +1,20 @@
--- How a run begins, what it leaves, and what it printed.
-use Rattle.std.specs.Prelude.{◌≡◌, ◌⊎◌, ℕ, ◌≤◌, Bool, true, false, List, [], ◌∷◌, ◌++◌, length, map, count_by, Some}
+-- What a run leaves, and what it printed.
+use Rattle.std.specs.Prelude.{◌≡◌, ◌⊎◌, ℕ, ◌≤◌, Bool, true, false, List, [], ◌++◌, length, map, count_by}
 use Rattle.fault_script.specs.Command.{Command, Genesis, End}
 use Rattle.fault_script.specs.Script.{is_plain}
-use Rattle.port.specs.Contents.{nothing as nothing_stands}
-use Rattle.blob_store.specs.LyingStore.{lying_view}
-use Rattle.blob_store.specs.MemStore.{itself, never}
 use Rattle.view_ledger.specs.Receipts.{Accepts}
-use Rattle.endorser_cell.specs.CellBank.{CellBank}
+use Rattle.endorser_cell.specs.CellBank.{AreServed, CellBank}
 use Rattle.client_pass.specs.Record.{Record}
-use Rattle.roster_bank.specs.Roster.{lists_of}
+use Rattle.roster_bank.specs.Roster.{IsRoster, lists_of}
 use Rattle.run_record.specs.Stamping.{acts_of, calls_of}
-use Rattle.script_world.specs.Running.{Running, world_of}
-use Rattle.world_run.specs.LinesSaid.{says_line}
+use Rattle.script_world.specs.Running.{Running}
+use Rattle.script_runs.specs.Begins.{Begins, first_ids}
+use Rattle.script_runs.specs.Belongs.{Belongs}
+use Rattle.script_runs.specs.Ids.{IsId}
+use Rattle.script_runs.specs.LinesSaid.{says_line}
+use Rattle.script_runs.specs.Roster.{all_members, members_by}
+use Rattle.script_runs.specs.Runs.{Runs}
 use Rattle.world_run.specs.Plain.{nothing, replies}
-use Rattle.world_run.specs.Roster.{IsNewBank, all_members, members_by}
-use Rattle.world_run.specs.Runs.{Runs}
-use Rattle.world_run.specs.Seals.{IsId}
-use Rattle.world_run.specs.Tied.{IsUnbegun}
-
--- the ids of a script's first line
-abbrev pub first_ids : List Command → List ℕ
-first_ids (Genesis ids ∷ commands) = ids
-first_ids _ = []
 
 -- any line but `genesis` and `end`
 abbrev pub is_between : Command → Bool
@@ -33,35 +26,25 @@ is_between _ = true
 abbrev pub HaveLeftFor : (ℕ → ℕ) → List Command → Type 0
 HaveLeftFor left_of script = (id : ℕ) → IsId id → count_by is_between script ≤ left_of id
 
-module _ {S C : Type 0} (key : S → List ℕ) (left : S → ℕ) (accepts : C → Accepts) (key_of : ℕ → List ℕ) (left_of : ℕ → ℕ) (checks : Accepts) where
-  -- Nothing was done yet: nothing stands in the store, which is honest, none of the endorsers 1 to 64 was asked anything, there are no
-  -- clients, no operation was begun, and the chain has view 0 alone, of the members of these ids.
-  pub record Begins (ids : List ℕ) (world : Running (CellBank S C) C) : Type 0 where
-    pub unbegun : IsUnbegun (world_of world)
-    pub chain : world.state.chain ≡ record { roster = all_members key_of; configs = members_by key_of ids ∷ [] }
-    pub store : (lying_view world.state.store).truth ≡ Some (record { contents = nothing_stands; source = itself; forks = never; due = 0 })
-    pub told : (lying_view world.state.store).told ≡ Some nothing_stands
-    pub checker : accepts world.state.checker ≡ checks
-    pub bank : IsNewBank key left accepts key_of left_of checks world.state.link
-    pub names : world.names ≡ []
-    pub turns : world.turns ≡ []
-    pub operations : world.operations ≡ record { all = []; names = []; open_from = 0 }
-
 module _ {S C : Type 0} (key : S → List ℕ) (left size : S → ℕ) (signs : S → List ℕ → List ℕ → S → Type 0) (fit : S → C → Type 0) (accepts : C → Accepts) (key_of : ℕ → List ℕ) (left_of : ℕ → ℕ) (checks : Accepts) where
   -- The script's lines were run one after the other, each on what came of those before, and printed these lines, one for each line that
-  -- prints a line of its own. The record has what each endorser was asked and answered in this run, and what each client did in it.
+  -- prints a line of its own; and the run belongs to them. The endorsers are the run's roster, and their lists are what they served. The
+  -- record has what each endorser was asked and answered in this run, and what each client did in it.
   pub record Replayed (script : List Command) (made : Record) (printed : List (List ℕ)) : Type 0 where
     pub first : Running (CellBank S C) C
     pub last : Running (CellBank S C) C
     pub begins : Begins key left accepts key_of left_of checks (first_ids script) first
     pub runs : Runs key left size signs fit accepts key_of left_of checks script first last printed
+    pub belongs : Belongs key left size signs fit accepts key_of left_of checks (first_ids script) script first last printed runs
     pub lines : length printed ≡ count_by says_line script
+    pub bank : IsRoster key accepts (all_members key_of) checks last.state.link
+    pub served : AreServed last.state.link
     pub cells : map calls_of made.cells ≡ map calls_of (lists_of last.state.link.cells)
     pub passes : map acts_of made.passes ≡ map (λ client. acts_of client.lines) last.clients
     pub roster : made.roster ≡ all_members key_of
     pub genesis : made.genesis ≡ members_by key_of (first_ids script)
 
-  -- Some of the script's first lines were run so and printed these lines.
+  -- Some of the script's first lines were run so and printed these lines, and the run belongs to them.
   pub record RanFront (script : List Command) (printed : List (List ℕ)) : Type 0 where
     pub first : Running (CellBank S C) C
     pub last : Running (CellBank S C) C
@@ -70,6 +53,7 @@ module _ {S C : Type 0} (key : S → List ℕ) (left size : S → ℕ) (signs : 
     pub rest : List Command
     pub split : script ≡ front ++ rest
     pub runs : Runs key left size signs fit accepts key_of left_of checks front first last printed
+    pub belongs : Belongs key left size signs fit accepts key_of left_of checks (first_ids script) front first last printed runs
     pub lines : length printed ≡ count_by says_line front
 
   -- Nothing was begun and nothing was printed, or they were.

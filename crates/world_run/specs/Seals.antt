@@ -1,16 +1,8 @@
--- The ids of a run's endorsers, and the texts that lead to a key.
+-- The texts that lead to a key.
 use Rattle.std.proofs.Common.{refl}
-use Rattle.std.specs.Prelude.{◌≡◌, ℕ, ◌≤◌, List, [], ◌∷◌, ◌++◌}
-use Rattle.std.specs.List.{range_with_len}
+use Rattle.std.specs.Prelude.{◌≡◌, ℕ, List, [], ◌∷◌, ◌++◌}
 use Rattle.sha2.specs.Sha256.{sha256}
 use Rattle.seal.specs.MacKey.{secret_text, secret_of, key_text, mac_key}
-
--- 1 to 64
-unfoldable pub all_ids : List ℕ
-all_ids = range_with_len 1 64
-
-abbrev pub IsId : ℕ → Type 0
-IsId id = (1 ≤ id) × (id ≤ 64)
 
 -- the key is the digest of the last of the texts
 abbrev pub Leads : List (List ℕ) → List ℕ → Type 0

@@ -8,7 +8,7 @@ use Rattle.fault_script.specs.Command.{Request, New, Append, Latest, At, Reconfi
 use Rattle.fault_script.specs.Labels.{label_of}
 use Rattle.fault_script.specs.Within.{IsWithin}
 use Rattle.script_world.specs.Nonce.{nonce}
-use Rattle.world_run.specs.Seals.{all_ids}
+use Rattle.script_runs.specs.Ids.{all_ids}
 
 -- how many nonces are drawn
 abbrev pub draws_of_request : Request → ℕ

@@ -20,7 +20,7 @@ use Rattle.calm.specs.Ledgers.{Ledgers}
 use Rattle.calm_first.specs.First.{BeforeFirst}
 use Rattle.coordinator.specs.CalmStates.{IsCalmOver}
 use Rattle.reply_lines.specs.Causes.{payload_of}
-use Rattle.script_world.specs.Labels.{Labels, no_labels}
+use Rattle.script_world.specs.Labels.{Labels}
 use Rattle.script_world.specs.Nonce.{nonce}
 use Rattle.script_world.specs.World.{World}
 use Rattle.world_run.specs.Plain.{Ledgers as Payloads, Known, nothing, after}
@@ -72,13 +72,6 @@ pub record IsTied {L C : Type 0} (accepts : C → Accepts) (checks : Accepts) (l
   -- its ledgers are those that are known, and no more than were made
   pub ledgers : AreTied before world.labels world.draws service.ledgers known.ledgers
   pub room : length service.rows ≤ count_by is_new before
-
--- A run that has done nothing yet.
-pub record IsUnbegun {L C : Type 0} (world : World L C) : Type 0 where
-  pub first : world.first ≡ world.state.chain
-  pub clients : world.clients ≡ []
-  pub labels : world.labels ≡ no_labels
-  pub draws : world.draws ≡ 0
 
 -- the view was answered and the run is tied to what is known after the first line, or memory was wanted
 abbrev pub BeginsTied : {L C : Type 0} → (C → Accepts) → (L → LinkView) → World L C → List ℕ → BeforeFirst → Result ViewRow Cause → Type 0

@@ -3,8 +3,8 @@ ghost use Rattle.std.specs.Prelude.{◌≡◌, ◌≤◌, ◌*◌, IfOk};
 ghost use Rattle.fault_script.specs.Seen.{commands_of};
 ghost use Rattle.fault_script.specs.Within.{AreIds};
 ghost use Rattle.view_ledger.specs.Extension.{AreGenuine};
-ghost use Rattle.world_run.specs.Replayed.{Begins, first_ids};
-ghost use Rattle.world_run.specs.Roster.{all_members, members_by, share};
+ghost use Rattle.script_runs.specs.Begins.{Begins, first_ids};
+ghost use Rattle.script_runs.specs.Roster.{all_members, members_by, share};
 
 use crate::roster::{RunEndorsers, config_of, endorsers_of, first_chain};
 use crate::seals::Seals;

@@ -8,8 +8,7 @@ ghost use Rattle.endorser_cell.specs.CellBank.{bank_view};
 ghost use Rattle.script_world.specs.Carried.{CameAs, KeepsNames};
 ghost use Rattle.script_world.specs.Going.{GoesOn};
 ghost use Rattle.script_world.specs.Running.{world_of};
-ghost use Rattle.world_run.specs.PlainRun.{Does};
-ghost use Rattle.world_run.specs.Runs.{Began, DidBegin, DidRequest, Opens, client_in, said_in};
+ghost use Rattle.script_runs.specs.Runs.{Does, Began, DidBegin, DidRequest, Opens, client_in, said_in};
 
 use crate::seals::Seals;
 use fault_script::Act;

@@ -1,7 +1,7 @@
 // Calls that get lost, and a store that lies or fails. Such lines print nothing.
 ghost use Rattle.std.specs.Prelude.{◌≡◌, [], IfOk};
 ghost use Rattle.blob_store.specs.declared.lie.Lie.TheVariants as lies;
-ghost use Rattle.world_run.specs.Runs.{DidLose, EndsLies, FailsMore, Lies, row_at, said_in};
+ghost use Rattle.script_runs.specs.Runs.{DidLose, EndsLies, FailsMore, Lies, row_at, said_in};
 
 use endorser_cell::Loss;
 use nim_base::{NoMemory, Text};
@@ -18,7 +18,9 @@ pub(crate) fn lose<G: Scheme, N: RunName>(
 ) -> Result<Option<Text>, NoMemory>
     ensures { IfOk result (λ said. DidLose G.Signer.key_of G.Signer.left_of G.Signer.size_of G.Signer.signs G.fits G.Checker.accepts N.accepts world.old world.new (said_in said) id which n) }
 {
+    world.calls_are_kept();
     world.lose(id, which, n);
+    world.calls_are_kept();
     Ok(None)
 }
 

@@ -7,10 +7,10 @@
 //!   stand-in for attested keys.
 //! - [`set_up_texts`] gives the texts whose digests a run rests on before it begins, and [`nonce`] the nonce of a number.
 //!
-//! What a run is stands in `specs/Runs`, line by line: each makes of the coordinator, its store, its endorsers and the clients what its kind
-//! does, and prints a line or none. `specs/Replayed` ties both ends to it: nothing was asked of any endorser when the run began, and the
-//! record has just the calls that the endorsers served and the acts of the clients at its end. Each line of a kind that says something,
-//! by `specs/LinesSaid`, prints one line, and the others none.
+//! What a run is stands in `Runs` of `script_runs`, line by line: each makes of the coordinator, its store, its endorsers and the clients
+//! what its kind does, and prints a line or none. `specs/Replayed` ties both ends to it: nothing was asked of any endorser when the run
+//! began, the run belongs to its script (`Belongs` of `script_runs`), and the record has just the calls that the endorsers served and the
+//! acts of the clients at its end. Each line of a kind that says something (`says_line`) prints one line, and the others none.
 //!
 //! A map from labels to lists of payloads and a list of views are all that the plain replies rest on: there is no service, no
 //! endorser and no store. So what a service prints for a plain script can be held against it.

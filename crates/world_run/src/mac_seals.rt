@@ -1,5 +1,5 @@
 ghost use Rattle.std.specs.Prelude.{◌≡◌, IfOk};
-ghost use Rattle.world_run.specs.Seals.{all_ids};
+ghost use Rattle.script_runs.specs.Ids.{all_ids};
 
 use crate::seals::Seals;
 use nim_base::{NoMemory, Text, digest_of};
@@ -20,7 +20,8 @@ impl Seals for MacSeals {
     ghost use Rattle.std.specs.Prelude.{◌≡◌, ◌-◌, ◌^◌};
     ghost use Rattle.seal.specs.KeyBook.{book_accepts};
     ghost use Rattle.seal.specs.MacKey.{mac_key};
-    ghost use Rattle.world_run.specs.Seals.{all_ids, mac_texts, mac_texts_lead};
+    ghost use Rattle.script_runs.specs.Ids.{all_ids};
+    ghost use Rattle.world_run.specs.Seals.{mac_texts, mac_texts_lead};
 
     ghost key_of = { λ seals id. mac_key id };
 

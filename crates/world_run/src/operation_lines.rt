@@ -2,7 +2,7 @@
 ghost use Rattle.std.specs.Prelude.{◌≡◌, map, IfOk};
 ghost use Rattle.std.specs.List.{AllByRecursion};
 ghost use Rattle.fault_script.specs.Within.{AreIds};
-ghost use Rattle.world_run.specs.Runs.{DidFinish, DidForge, DidOffer, DidRetry, DidStep, said_in};
+ghost use Rattle.script_runs.specs.Runs.{DidFinish, DidForge, DidOffer, DidRetry, DidStep, said_in};
 
 use crate::seals::Seals;
 use nim_base::{NoMemory, Text};
@@ -51,6 +51,8 @@ pub(crate) fn offer<G: Scheme, N: RunName>(
 ) -> Result<Option<Text>, NoMemory>
     ensures { IfOk result (λ said. DidOffer G.Signer.key_of G.Signer.left_of G.Signer.size_of G.Signer.signs G.fits G.Checker.accepts N.accepts world.old world.new (said_in said) op.now ids.now) }
 {
+    world.calls_are_kept();
+    world.lists_are_lawful(ids);
     world.offer(op, ids)
 }
 

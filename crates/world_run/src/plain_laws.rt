@@ -12,8 +12,10 @@ ghost use Rattle.coordinator.specs.First.{SaysOfFirst};
 ghost use Rattle.script_world.specs.Lines.{Restarted, HasClientMore};
 ghost use Rattle.script_world.specs.World.{World};
 ghost use Rattle.world_run.specs.Plain.{Known, reply_to_request, after_request};
-ghost use Rattle.world_run.specs.PlainRun.{IsRunnable, Does};
-ghost use Rattle.world_run.specs.Tied.{IsTied, IsUnbegun, BeginsTied};
+ghost use Rattle.world_run.specs.PlainRun.{IsRunnable};
+ghost use Rattle.script_runs.specs.Runs.{Does};
+ghost use Rattle.world_run.specs.Tied.{IsTied, BeginsTied};
+ghost use Rattle.script_runs.specs.Begins.{IsUnbegun};
 
 use blob_store::{LyingStore, true_stores_are_honest};
 use coordinator::{calm_coordinators_answer, calm_coordinators_begin, calm_coordinators_go_on};

@@ -6,8 +6,8 @@ ghost use Rattle.script_world.specs.Labels.{handle_for};
 ghost use Rattle.script_world.specs.Nonce.{nonce};
 ghost use Rattle.script_world.specs.Raw.{AnsweredRaw, AppendedRaw};
 ghost use Rattle.script_world.specs.Running.{world_of};
-ghost use Rattle.world_run.specs.Runs.{DidRaw, said_in};
-ghost use Rattle.world_run.specs.Seals.{IsId, all_ids};
+ghost use Rattle.script_runs.specs.Runs.{DidRaw, said_in};
+ghost use Rattle.script_runs.specs.Ids.{IsId, all_ids};
 
 use nim_base::{NoMemory, Text};
 use roster_bank::RunName;
@@ -31,7 +31,10 @@ pub(crate) fn raw_append<G: Scheme, N: RunName>(
     ensures { IfOk result (λ said. DidRaw G.Signer.key_of G.Signer.left_of G.Signer.size_of G.Signer.signs G.fits G.Checker.accepts N.accepts world.old world.new (said_in said)
         (AppendedRaw G.Signer.key_of G.Signer.left_of G.Signer.size_of G.Signer.signs G.fits world.old.state world.new.state.link id (handle_for (world_of world.old).labels label.now) height (nonce number) payload.now)) }
 {
-    world.raw_append(id, label, height, payload, number)
+    world.calls_are_kept();
+    let said = world.raw_append(id, label, height, payload, number);
+    world.calls_are_kept();
+    said
 }
 
 /// `raw latest ID LABEL NUMBER`.
@@ -46,7 +49,10 @@ pub(crate) fn raw_latest<G: Scheme, N: RunName>(
     ensures { IfOk result (λ said. DidRaw G.Signer.key_of G.Signer.left_of G.Signer.size_of G.Signer.signs G.fits G.Checker.accepts N.accepts world.old world.new (said_in said)
         (AnsweredRaw G.Signer.key_of G.Signer.left_of G.Signer.size_of G.Signer.signs G.fits world.old.state.link world.new.state.link id (Latest (handle_for (world_of world.old).labels label.now) (nonce number)))) }
 {
-    world.raw_latest(id, label, number)
+    world.calls_are_kept();
+    let said = world.raw_latest(id, label, number);
+    world.calls_are_kept();
+    said
 }
 
 /// `raw show ID LABEL`.
@@ -60,5 +66,8 @@ pub(crate) fn raw_show<G: Scheme, N: RunName>(
     ensures { IfOk result (λ said. DidRaw G.Signer.key_of G.Signer.left_of G.Signer.size_of G.Signer.signs G.fits G.Checker.accepts N.accepts world.old world.new (said_in said)
         (AnsweredRaw G.Signer.key_of G.Signer.left_of G.Signer.size_of G.Signer.signs G.fits world.old.state.link world.new.state.link id (Show (handle_for (world_of world.old).labels label.now)))) }
 {
-    world.raw_show(id, label)
+    world.calls_are_kept();
+    let said = world.raw_show(id, label);
+    world.calls_are_kept();
+    said
 }

@@ -8,8 +8,9 @@ ghost use Rattle.roster_bank.specs.Roster.{lists_of};
 ghost use Rattle.run_record.specs.Stamping.{acts_of, calls_of};
 ghost use Rattle.view_ledger.specs.Extension.{AreGenuine};
 ghost use Rattle.world_run.specs.Printing.{Wrote, WroteFront};
-ghost use Rattle.world_run.specs.Replayed.{Begins, Prints, PrintsFirst, first_ids};
-ghost use Rattle.world_run.specs.Roster.{KeysAreApart, all_members, members_by};
+ghost use Rattle.script_runs.specs.Begins.{Begins, first_ids};
+ghost use Rattle.world_run.specs.Replayed.{Prints, PrintsFirst};
+ghost use Rattle.script_runs.specs.Roster.{KeysAreApart, all_members, members_by};
 ghost use Rattle.world_run.specs.SetUp.{set_up_texts};
 
 use crate::beginning::Begun;
@@ -23,6 +24,7 @@ use nim_base::NoMemory;
 use nim_outside::Sink;
 use roster_bank::RunName;
 use run_order::record_of_run;
+use script_runs::runs_belong_to_scripts;
 use script_world::World;
 use seal::{Checker, Scheme, Signer};
 use statement::{Config, Member};
@@ -78,11 +80,13 @@ pub(crate) fn run_begun<M: Seals, N: RunName, K: Sink>(
         × Wrote (K.written sink.old) (K.written sink.new) printed }
 {
     plain_scripts_get_plain_replies::<M::Scheme, N>();
+    runs_belong_to_scripts::<M::Scheme>();
     let Begun {
         mut world,
         roster,
         genesis,
     } = begun;
     run_lines(alloc, seals, &mut world, script.lines(), sink)?;
+    world.calls_are_kept();
     Ok(recorded(alloc, world, roster, genesis)?)
 }

@@ -8,9 +8,11 @@ ghost use Rattle.nim_outside.specs.Causes.{Rose};
 ghost use Rattle.seal.specs.KeyBook.{book_accepts};
 ghost use Rattle.world_run.specs.Printed.{MacPrints, MacPrintsFront};
 ghost use Rattle.world_run.specs.Printing.{Wrote, WroteFront};
-ghost use Rattle.world_run.specs.Replayed.{Prints, PrintsFirst, first_ids};
-ghost use Rattle.world_run.specs.Roster.{KeysAreApart, all_members, members_by};
-ghost use Rattle.world_run.specs.Seals.{all_ids, mac_texts};
+ghost use Rattle.world_run.specs.Replayed.{Prints, PrintsFirst};
+ghost use Rattle.script_runs.specs.Begins.{first_ids};
+ghost use Rattle.script_runs.specs.Roster.{KeysAreApart, all_members, members_by};
+ghost use Rattle.script_runs.specs.Ids.{all_ids};
+ghost use Rattle.world_run.specs.Seals.{mac_texts};
 ghost use Rattle.world_run.specs.SetUp.{set_up_texts};
 
 use crate::beginning::begin;

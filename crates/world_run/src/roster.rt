@@ -3,8 +3,8 @@ ghost use Rattle.fault_script.specs.Within.{AreIds};
 ghost use Rattle.stamp_clock.specs.Stamps.{stamps};
 ghost use Rattle.view_ledger.specs.Extension.{AreGenuine};
 ghost use Rattle.endorser_cell.specs.EndorserCell.{EndorserCell as Cell};
-ghost use Rattle.world_run.specs.Seals.{IsId};
-ghost use Rattle.world_run.specs.Roster.{IsNewBank, IsNewCell, all_members, member_by, members_by, share};
+ghost use Rattle.script_runs.specs.Ids.{IsId};
+ghost use Rattle.script_runs.specs.Roster.{IsNewBank, IsNewCell, all_members, member_by, members_by, share};
 
 use crate::mac_seals::IDS;
 use crate::seals::Seals;

@@ -2,8 +2,8 @@
 ghost use Rattle.std.specs.Prelude.{◌≡◌, [], IfOk};
 ghost use Rattle.statement.specs.Config.{ids};
 ghost use Rattle.fault_script.specs.Seen.{command_of};
-ghost use Rattle.world_run.specs.Seals.{all_ids};
-ghost use Rattle.world_run.specs.Runs.{CanRun, DidGenesis, DidLine, DidRestart, said_in};
+ghost use Rattle.script_runs.specs.Ids.{all_ids};
+ghost use Rattle.script_runs.specs.Runs.{CanRun, DidGenesis, DidLine, DidRestart, said_in};
 
 use crate::client_lines::{run_act, run_begin};
 use crate::fault_lines::{fail, fork, hide, honest, lose, stale};

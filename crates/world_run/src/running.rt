@@ -4,8 +4,8 @@ ghost use Rattle.std.specs.List.{concat};
 ghost use Rattle.statement.specs.Config.{ids};
 ghost use Rattle.fault_script.specs.Seen.{command_of, commands_of};
 ghost use Rattle.nim_outside.specs.Causes.{HasCause, Puts, Rose};
-ghost use Rattle.world_run.specs.Runs.{AllCanRun, CanRun, said_in};
-ghost use Rattle.world_run.specs.Seals.{all_ids};
+ghost use Rattle.script_runs.specs.Runs.{AllCanRun, CanRun, said_in};
+ghost use Rattle.script_runs.specs.Ids.{all_ids};
 ghost use Rattle.world_run.specs.Printing.{DidAndPut, RanAndPut, RanFrontAndPut, Wrote, WroteFront};
 
 use crate::run_line::run_line;

@@ -1,5 +1,5 @@
 ghost use Rattle.std.specs.Prelude.{◌≡◌, ◌≤◌, IfOk, map};
-ghost use Rattle.world_run.specs.Seals.{IsId};
+ghost use Rattle.script_runs.specs.Ids.{IsId};
 
 use nim_base::{NoMemory, Text};
 use seal::{Checker, Scheme, Signer};

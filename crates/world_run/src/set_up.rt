@@ -4,7 +4,7 @@ ghost use Rattle.std.specs.Option.{option_map};
 ghost use Rattle.fault_script.specs.Labels.{label_of, label_of_request};
 ghost use Rattle.fault_script.specs.Seen.{command_of, commands_of, request_of};
 ghost use Rattle.fault_script.specs.Within.{IsRequestWithin, IsWithin};
-ghost use Rattle.world_run.specs.Seals.{all_ids};
+ghost use Rattle.script_runs.specs.Ids.{all_ids};
 ghost use Rattle.world_run.specs.SetUp.{AllWithin, draws_of, draws_of_request, first_entries, first_entry, first_entry_of_request, label_text, made_by, made_by_request, set_up_texts, text_of_label};
 
 use crate::mac_seals::IDS;

@@ -1,6 +1,6 @@
 use Rattle.std.proofs.Common.{ℕ, List, ap, ap₂, ◌∙◌}
-use Rattle.world_run.specs.Replayed.{first_ids}
-use Rattle.world_run.specs.Roster.{members_by}
+use Rattle.script_runs.specs.Begins.{first_ids}
+use Rattle.script_runs.specs.Roster.{members_by}
 use Rattle.world_run.proofs.RunBegins.{begun_so, one_view}
 use Rattle.world_run.proofs.beginning.begin.Goals as goal
 

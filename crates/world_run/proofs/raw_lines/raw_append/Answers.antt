@@ -1,4 +1,4 @@
-use Rattle.std.proofs.Common.{◌≡◌, None}
+use Rattle.std.proofs.Common.{◌≡◌, None, sym, ◌∙◌}
 use Rattle.statement.specs.Config.{ids as ids_of}
 use Rattle.roster_bank.specs.Places.{place_in}
 use Rattle.script_world.specs.Labels.{handle_for}
@@ -11,7 +11,7 @@ use Rattle.world_run.proofs.raw_lines.raw_append.Goals as goal
 
 pub returns : goal.returns
 returns g c =
-    asked_raw g.G.Signer.Signer.key_of g.G.Signer.Signer.left_of g.G.Signer.Signer.size_of g.G.Signer.Signer.signs g.G.Scheme.fits g.G.Checker.Checker.accepts g.N.RunName.accepts c.args.world.now c.raw_append.new.self
-    (AppendedRaw g.G.Signer.Signer.key_of g.G.Signer.Signer.left_of g.G.Signer.Signer.size_of g.G.Signer.Signer.signs g.G.Scheme.fits c.args.world.now.state c.raw_append.new.self.state.link c.args.id (handle_for (world_of c.args.world.now).labels c.args.label.now) c.args.height (nonce c.args.number) c.args.payload.now)
+    asked_raw g.G.Signer.Signer.key_of g.G.Signer.Signer.left_of g.G.Signer.Signer.size_of g.G.Signer.Signer.signs g.G.Scheme.fits g.G.Checker.Checker.accepts g.N.RunName.accepts c.args.world.now c.raw_append-said.new.self
+    (AppendedRaw g.G.Signer.Signer.key_of g.G.Signer.Signer.left_of g.G.Signer.Signer.size_of g.G.Signer.Signer.signs g.G.Scheme.fits c.args.world.now.state c.raw_append-said.new.self.state.link c.args.id (handle_for (world_of c.args.world.now).labels c.args.label.now) c.args.height (nonce c.args.number) c.args.payload.now)
     (place_in (ids_of g.N.RunName.members) c.args.id ≡ None) (is_there (ids_of g.N.RunName.members) c.args.id c.requires.members c.requires.id)
-    c.raw_append.ensures.rest c.raw_append.result c.raw_append.ensures.answered c.raw_append.ensures.none
+    c.raw_append-said.ensures.rest c.calls_are_kept.ensures.served (c.calls_are_kept-2.ensures.roster.fresh ∙ sym c.calls_are_kept.ensures.roster.fresh) c.raw_append-said.result c.raw_append-said.ensures.answered c.raw_append-said.ensures.none

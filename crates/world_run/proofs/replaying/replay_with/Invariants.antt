@@ -1,4 +1,4 @@
-use Rattle.world_run.specs.Roster.{all_members}
+use Rattle.script_runs.specs.Roster.{all_members}
 use Rattle.world_run.proofs.replaying.replay_with.Given as goal
 
 abbrev pub ghosts-run_all-N-RunName : goal.ghosts-run_all-N-RunName

@@ -5,8 +5,8 @@ use Rattle.statement.specs.Ids.{IsRising}
 use Rattle.statement.specs.Config.{ids as ids_of}
 use Rattle.view_ledger.specs.Receipts.{Accepts}
 use Rattle.roster_bank.specs.Roster.{AllAccept}
-use Rattle.world_run.specs.Seals.{all_ids}
-use Rattle.world_run.specs.Roster.{members_by}
+use Rattle.script_runs.specs.Ids.{all_ids}
+use Rattle.script_runs.specs.Roster.{members_by}
 use Rattle.world_run.proofs.Ids.{are_all}
 use Rattle.world_run.proofs.Rosters.{all_rise, cells_all, cells_more, members_more, new_accept, new_bank, new_lines, new_members}
 use Rattle.world_run.proofs.roster.endorsers_of.Goals as goal

@@ -1,6 +1,6 @@
 use Rattle.std.proofs.Common.{◌≡◌, ◌+◌, ◌*◌}
 use Rattle.std.specs.List.{range_with_len}
-use Rattle.world_run.specs.Roster.{AreNewCells, members_by, share}
+use Rattle.script_runs.specs.Roster.{AreNewCells, members_by, share}
 use Rattle.world_run.proofs.roster.endorsers_of.Given as goal
 
 abbrev pub invariant-loop-below : goal.invariant-loop-below

@@ -1,5 +1,5 @@
 use Rattle.std.proofs.Common.{arith}
-use Rattle.world_run.specs.Roster.{members_by}
+use Rattle.script_runs.specs.Roster.{members_by}
 use Rattle.world_run.proofs.Genesis.{all_many, picked_step, within}
 use Rattle.world_run.proofs.roster.picked.Goals as goal
 

@@ -1,5 +1,5 @@
 use Rattle.std.proofs.Common.{◌≡◌, ◌++◌, ℕ, List, drop}
-use Rattle.world_run.specs.Roster.{all_members, members_by}
+use Rattle.script_runs.specs.Roster.{all_members, members_by}
 use Rattle.world_run.proofs.roster.picked.Given as goal
 
 abbrev pub invariant-loop-id : goal.invariant-loop-id

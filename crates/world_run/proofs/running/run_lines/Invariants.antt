@@ -1,7 +1,7 @@
 use Rattle.std.proofs.Common.{◌≤◌, take, drop}
 use Rattle.fault_script.specs.Seen.{commands_of}
 use Rattle.world_run.specs.Printing.{RanAndPut, Wrote}
-use Rattle.world_run.specs.Runs.{AllCanRun}
+use Rattle.script_runs.specs.Runs.{AllCanRun}
 use Rattle.world_run.proofs.running.run_lines.Given as goal
 
 abbrev pub invariant-loop-line : goal.invariant-loop-line

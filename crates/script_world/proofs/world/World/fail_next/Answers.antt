@@ -22,3 +22,13 @@ pub returns-clause-contents : goal.returns-clause-contents
 returns-clause-contents g c =
     subst (λ (store : LyingStore). (held_in c.fail_next.new.self).contents ≡ (held_in store).contents)
     (was_store c.args.self.now c.self.inside.coordinator c.self.inside.acts c.self.inside.operations c.self.inside.labels c.self.inside.draws c.self.view_is c.store_mut.result.now c.store_mut.ensures.value) c.fail_next.ensures.contents
+
+pub returns-clause-source : goal.returns-clause-source
+returns-clause-source g c =
+    subst (λ (store : LyingStore). (held_in c.fail_next.new.self).source ≡ (held_in store).source)
+    (was_store c.args.self.now c.self.inside.coordinator c.self.inside.acts c.self.inside.operations c.self.inside.labels c.self.inside.draws c.self.view_is c.store_mut.result.now c.store_mut.ensures.value) c.fail_next.ensures.source
+
+pub returns-clause-forks : goal.returns-clause-forks
+returns-clause-forks g c =
+    subst (λ (store : LyingStore). (held_in c.fail_next.new.self).forks ≡ (held_in store).forks)
+    (was_store c.args.self.now c.self.inside.coordinator c.self.inside.acts c.self.inside.operations c.self.inside.labels c.self.inside.draws c.self.view_is c.store_mut.result.now c.store_mut.ensures.value) c.fail_next.ensures.forks

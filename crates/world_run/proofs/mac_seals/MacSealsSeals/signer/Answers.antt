@@ -1,6 +1,6 @@
 use Rattle.std.proofs.Common.{List, ℕ, subst, sym}
 use Rattle.std.specs.Prelude.{Contains}
-use Rattle.world_run.specs.Seals.{all_ids}
+use Rattle.script_runs.specs.Ids.{all_ids}
 use Rattle.world_run.proofs.Ids.{has_id}
 use Rattle.world_run.proofs.mac_seals.MacSealsSeals.signer.Goals as goal
 

@@ -10,7 +10,7 @@ use Rattle.endorser_cell.specs.Losses.{IsNone}
 use Rattle.endorser_cell.specs.CellBank.{CellBank, bank_of, bank_view, signs_in}
 use Rattle.calm.specs.Beginning.{IsInState}
 use Rattle.calm.specs.Members.{Fits}
-use Rattle.world_run.specs.Seals.{IsId, all_ids}
+use Rattle.script_runs.specs.Ids.{IsId, all_ids}
 
 -- the member of an id, by the keys of all ids
 abbrev pub member_by : (ℕ → List ℕ) → ℕ → Member

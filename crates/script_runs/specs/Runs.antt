@@ -15,9 +15,10 @@ use Rattle.blob_store.specs.LyingStore.{lying_view, held_in}
 use Rattle.blob_store.specs.MemStore.{itself, never}
 use Rattle.blob_store.specs.declared.lie.Lie.{Lie}
 use Rattle.blob_store.specs.declared.lie.Lie.TheVariants as lies
+use Rattle.port.specs.Link.{LinkView}
 use Rattle.view_ledger.specs.Receipts.{Accepts}
 use Rattle.endorser_cell.specs.Asking.{LosesMore}
-use Rattle.endorser_cell.specs.CellBank.{CellBank, bank_view}
+use Rattle.endorser_cell.specs.CellBank.{AreServed, CellBank, bank_view}
 use Rattle.endorser_cell.specs.declared.losses.Loss.{Loss}
 use Rattle.endorser_cell.specs.declared.losses.Loss.TheVariants as losses
 use Rattle.coordinator.specs.Entries.{first_entry, later_entry}
@@ -33,12 +34,12 @@ use Rattle.script_world.specs.Faults.{LiesSo}
 use Rattle.script_world.specs.Carried.{CameAs, Finished, Forged, KeepsNames, Offered, Opened, Retried, Stepped}
 use Rattle.script_world.specs.Going.{GoesOn}
 use Rattle.script_world.specs.Labels.{handle_for}
-use Rattle.script_world.specs.Lines.{Restarted}
+use Rattle.script_world.specs.Lines.{Restarted, MadeLedger, Appended, ReadNewest, ReadHeight}
 use Rattle.script_world.specs.Nonce.{nonce}
 use Rattle.script_world.specs.Raw.{AnsweredRaw, AppendedRaw, OnlyLink, OnlyStore}
 use Rattle.script_world.specs.Running.{Running, world_of}
+use Rattle.script_world.specs.Served.{HasLawfulList}
 use Rattle.script_world.specs.World.{World}
-use Rattle.world_run.specs.PlainRun.{Does}
 
 -- a line that can be run: it keeps the limits of its words, and lines may say it
 abbrev pub CanRun : Command → Type 0
@@ -70,6 +71,14 @@ client_in (requests.Latest client label) = client
 client_in (requests.At client label height) = client
 client_in (requests.Reconfigure ids) = []
 
+-- what the client at this place asked for was done, and this is the line that says so
+abbrev pub Does : {L C : Type 0} → (C → Accepts) → (L → LinkView) → World L C → World L C → ℕ → Request → List ℕ → Type 0
+Does accepts lv old new place (requests.New client label payload) line = MadeLedger accepts lv old new place label payload line
+Does accepts lv old new place (requests.Append client label height payload) line = Appended accepts lv old new place label height payload line
+Does accepts lv old new place (requests.Latest client label) line = ReadNewest accepts lv old new place label line
+Does accepts lv old new place (requests.At client label height) line = ReadHeight accepts lv old new place label height line
+Does accepts lv old new place (requests.Reconfigure ids) line = ⊥
+
 -- what the client at this place asked for was begun as an operation: what it draws, and what its label means then
 abbrev pub Began : {L C : Type 0} → World L C → World L C → ℕ → Request → Type 0
 Began old new place (requests.New client label payload) = BeganNew old new place label payload
@@ -99,6 +108,8 @@ module _ {L C : Type 0} (old new : Running L C) where
     pub rest : OnlyStore old new
     pub due : (held_in new.state.store).due ≡ min ((held_in old.state.store).due + n) (2 ^ 64 - 1 - (lying_view old.state.store).faults)
     pub contents : (held_in new.state.store).contents ≡ (held_in old.state.store).contents
+    pub source : (held_in new.state.store).source ≡ (held_in old.state.store).source
+    pub forks : (held_in new.state.store).forks ≡ (held_in old.state.store).forks
 
   -- all lies of the store end
   pub record EndsLies : Type 0 where
@@ -180,6 +191,8 @@ module _ {S C : Type 0} (key : S → List ℕ) (left size : S → ℕ) (signs : 
     -- the client of the open read of this name was given a reply of what these endorsers had signed
     pub record DidOffer (op ids : List ℕ) : Type 0 where
       pub rest : GoesWithin old new
+      pub served : AreServed old.state.link
+      pub lists : AllByRecursion (HasLawfulList key accepts old.state.link) ids
       pub told : SaysOr (NoneReads old.operations op × (new ≡ old)) (Offered key left accepts checks old new op ids) said
 
     -- so many more calls of the endorser are lost
@@ -187,11 +200,14 @@ module _ {S C : Type 0} (key : S → List ℕ) (left size : S → ℕ) (signs : 
       pub rest : OnlyLink old new
       pub cells : LosesMore old.state.link.cells new.state.link.cells id which n
       pub log : new.state.link.log ≡ old.state.link.log
+      pub fresh : new.state.link.fresh ≡ old.state.link.fresh
       pub none : said ≡ []
 
     -- an endorser was asked directly, and the line says what it answered
     pub record DidRaw (answered : List ℕ → Type 0) : Type 0 where
       pub rest : OnlyLink old new
+      pub served : AreServed old.state.link
+      pub fresh : new.state.link.fresh ≡ old.state.link.fresh
       pub line : List ℕ
       pub answers : answered line
       pub one : said ≡ line ∷ []

@@ -1,0 +1,13 @@
+pub mod Ids
+pub mod Roster
+pub mod Begins
+pub mod LinesSaid
+pub mod Runs
+pub mod Accepted
+pub mod OneView
+pub mod BadReplies
+pub mod OwnCalls
+pub mod CallRules
+pub mod SignedMarks
+pub mod AskedFor
+pub mod Belongs
