@@ -1,5 +1,5 @@
 -- A client that was given an answer, and the line that says so.
-use Rattle.std.proofs.Common.{◌≡◌, ◌⊎◌, inl, inr, Bool, ℕ, zero, suc, ◌<◌, true, false, List, [], ◌∷◌, length, slice_get, Option, Some, None, Result, Ok, Err, IfOk, refl, sym, ap, subst, ◌∙◌, arith}
+use Rattle.std.proofs.Common.{◌≡◌, ◌⊎◌, inl, inr, Bool, ℕ, zero, suc, ◌<◌, ◌-◌, true, false, List, [], ◌∷◌, ◌++◌, length, slice_get, Option, Some, None, Result, Ok, Err, IfOk, refl, sym, ap, subst, ◌∙◌, arith, append-nil}
 use Rattle.std.specs.Result.{result_err}
 use Rattle.chain_block.specs.declared.entry.Entry.{Entry}
 use Rattle.chain_block.specs.declared.entry.Entry.TheVariants as entries
@@ -21,9 +21,11 @@ use Rattle.coordinator.specs.State.{State}
 use Rattle.reply_lines.specs.Causes.{payload_of}
 use Rattle.reply_lines.specs.Lines.{bad_reply_line}
 use Rattle.reply_taking.specs.Learning.{Learns, NotedAfterViews}
+use Rattle.client_acts.specs.declared.turn.Turn.{Turn}
 use Rattle.client_acts.specs.ClientActs.{ClientActs}
 use Rattle.client_acts.specs.Taking.{IsUnbegun}
 use Rattle.client_acts.specs.Taking.{Took as ClientTook}
+use Rattle.client_acts.specs.Turns.{TurnsAt, turn_of}
 use Rattle.answer_lines.specs.Draws.{DrewEntry, DrewRead}
 use Rattle.answer_lines.specs.Taken.{IsQuiet, Sides, Took, latest_line, newest_line, taken_line}
 use Rattle.answer_lines.specs.Giving.{Gave, OnlyLearned, count_by}
@@ -41,6 +43,12 @@ bare_handle (entries.Later handle height nonce payload) = refl
 pub bare_payload : (entry : Entry) → payload_of entry ≡ payload_of (bare entry)
 bare_payload (entries.Genesis nonce payload) = refl
 bare_payload (entries.Later handle height nonce payload) = refl
+
+-- ---- turns
+
+-- nobody wrote anything
+pub no_turn : (place calls : ℕ) (turns : List Turn) → TurnsAt place calls turns turns
+no_turn place calls turns = ([], sym (append-nil turns), tt)
 
 -- ---- the client at a place
 
@@ -151,6 +159,14 @@ module _ {S L C : Type 0} (accepts : C → Accepts) (store_view : S → StoreVie
   pub only_learned : {A : Type 0} (taken : Result A TakeFault) (place calls : ℕ) (view : List ℕ) (act : Option ReplyFault → Act) (P : ClientPass C → ClientPass C → Type 0)
       → ClientTook accepts store_view link_view old new before after place calls view taken act P → OnlyLearned accepts store_view link_view before after
   only_learned taken place calls view act P took = only_views taken took.from took.to view took.learns
+
+  -- and what it wrote is one turn, if anything
+  pub turned_at : {A : Type 0} (taken : Result A TakeFault) (place calls : ℕ) (view : List ℕ) (act : Option ReplyFault → Act) (P : ClientPass C → ClientPass C → Type 0)
+      → ClientTook accepts store_view link_view old new before after place calls view taken act P → TurnsAt place calls old.turns new.turns
+  turned_at taken place calls view act P took = at (length took.to.lines - length took.from.lines) took.turn where
+    at : (n : ℕ) → (new.turns ≡ old.turns ++ turn_of place calls n ∷ []) ⊎ IsUnbegun old new before after taken → TurnsAt place calls old.turns new.turns
+    at n (inl more) = (turn_of place calls n ∷ [], more, ((refl, refl), tt))
+    at n (inr unbegun) = subst (λ (now : ClientActs C). TurnsAt place calls old.turns now.turns) (sym unbegun.1) (no_turn place calls old.turns)
 
   -- the line of a reply that was checked
   pub gave_line : {T E : Type 0} (line : Result T E) (bytes : T → List ℕ) (place calls : ℕ) (view : List ℕ) (taken : Result (Unit {0}) TakeFault) (act named : Option ReplyFault → Act) (P : ClientPass C → ClientPass C → Type 0)

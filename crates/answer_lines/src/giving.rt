@@ -9,6 +9,7 @@ ghost use Rattle.verifier.specs.declared.reply_fault.ReplyFault.{ReplyFault};
 ghost use Rattle.client_pass.specs.declared.take_fault.TakeFault.TheVariants.{Again, Reply};
 ghost use Rattle.client_pass.specs.Answers.{answer_by};
 ghost use Rattle.client_acts.specs.ClientActs.{StaysOn};
+ghost use Rattle.client_acts.specs.Turns.{TurnsAt};
 ghost use Rattle.answer_lines.specs.Draws.{DrewEntry, DrewRead, IsOpen};
 ghost use Rattle.answer_lines.specs.Giving.{Gave, OnlyLearned, conflict_in, count_by};
 ghost use Rattle.answer_lines.specs.Taken.{TookAt, TookLatest, TookOwn, latest_line, newest_line, taken_line};
@@ -66,6 +67,8 @@ pub fn give_own<S: Store, L: Link, C: Checker, K: RunName>(
     ensures checker { coordinator.new.checker ≡ coordinator.old.checker }
     // Whatever was asked on the way to the check was asked for views.
     ensures learned { OnlyLearned C.accepts S.view L.view coordinator.old coordinator.new }
+    // Whatever the client wrote, it wrote after so many calls.
+    ensures turns { TurnsAt client calls acts.old.turns acts.new.turns }
 {
     clients_stay_on::<C>();
     match answer {
@@ -121,6 +124,8 @@ fn give_own_refusal<S: Store, L: Link, C: Checker, K: RunName>(
     ensures checker { coordinator.new.checker ≡ coordinator.old.checker }
     // Whatever was asked on the way to the check was asked for views.
     ensures learned { OnlyLearned C.accepts S.view L.view coordinator.old coordinator.new }
+    // Whatever the client wrote, it wrote after so many calls.
+    ensures turns { TurnsAt client calls acts.old.turns acts.new.turns }
 {
     clients_stay_on::<C>();
     match conflict_in(refusal) {
@@ -152,6 +157,8 @@ pub fn give_at<S: Store, L: Link, C: Checker, K: RunName>(
     ensures checker { coordinator.new.checker ≡ coordinator.old.checker }
     // Whatever was asked on the way to the check was asked for views.
     ensures learned { OnlyLearned C.accepts S.view L.view coordinator.old coordinator.new }
+    // Whatever the client wrote, it wrote after so many calls.
+    ensures turns { TurnsAt client calls acts.old.turns acts.new.turns }
 {
     clients_stay_on::<C>();
     match answer {
@@ -209,6 +216,8 @@ pub fn give_latest<S: Store, L: Link, C: Checker, K: RunName>(
     ensures checker { coordinator.new.checker ≡ coordinator.old.checker }
     // Whatever was asked on the way to the check was asked for views.
     ensures learned { OnlyLearned C.accepts S.view L.view coordinator.old coordinator.new }
+    // Whatever the client wrote, it wrote after so many calls.
+    ensures turns { TurnsAt client calls acts.old.turns acts.new.turns }
 {
     clients_stay_on::<C>();
     match answer {

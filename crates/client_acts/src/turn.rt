@@ -1,4 +1,4 @@
-/// Some lines that a client wrote in a row, and how many calls of endorsers were noted before them.
+/// Some lines that a client wrote in a row, and how many calls endorsers had served before them.
 #[derive(Clone, Copy, Debug, PartialEq, Eq)]
 pub struct Turn {
     pub client: usize,

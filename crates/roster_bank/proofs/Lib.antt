@@ -3,3 +3,4 @@ pub mod Places
 pub mod Counts
 pub mod Grows
 pub mod Known
+pub mod Counting

@@ -13,7 +13,7 @@ ghost use Rattle.client_pass.specs.Record.{AreLawful};
 
 use crate::lists::lists_of;
 use crate::run_name::RunName;
-use crate::served::was_served;
+use crate::served::{served_with, was_served};
 use endorser_cell::{BankLine, CellBank, EndorserCell, Loss};
 use endorser_core::CellLine;
 use nim_base::NoMemory;
@@ -29,9 +29,12 @@ use std::marker::Model;
 /// keys, with checkers that accept what the run does. And the lines of each are all calls that it served since the bank was made.
 pub struct RosterBank<'a, G: Scheme, K: RunName> {
     bank: CellBank<'a, G, K>,
+    served: usize,
 }
 
 impl<'a, G: Scheme, K: RunName> Model for RosterBank<'a, G, K> {
+    ghost use Rattle.std.specs.Prelude.{◌≡◌, [], length};
+    ghost use Rattle.endorser_cell.specs.BankLine.{served_by};
     ghost use Rattle.endorser_cell.specs.CellBank.{CellBank};
     ghost use Rattle.roster_bank.specs.Roster.{IsRoster};
 
@@ -39,18 +42,20 @@ impl<'a, G: Scheme, K: RunName> Model for RosterBank<'a, G, K> {
 
     ghost view = { λ own. own.bank };
 
-    ghost invariant = { λ own. IsRoster G.Signer.key_of G.Checker.accepts K.members K.accepts own.bank };
+    ghost invariant = { λ own. IsRoster G.Signer.key_of G.Checker.accepts K.members K.accepts own.bank × (own.served ≡ length (served_by [] own.bank.log)) };
 }
 
 impl<'a, G: Scheme, K: RunName> Drop for RosterBank<'a, G, K> {
     fn drop(self) {
-        let RosterBank { bank: _ } = self;
+        let RosterBank { bank: _, served: _ } = self;
     }
 }
 
 impl<'a, G: Scheme, K: RunName> RosterBank<'a, G, K> {
+    ghost use Rattle.endorser_cell.specs.BankLine.{served_by};
     ghost use Rattle.endorser_cell.specs.Cells.{cell_of};
-    ghost use Rattle.endorser_cell.specs.CellBank.{AreServed, IsRawFaithful, IsServedRaw, KeepsCalls, due_of, has_no_line, more_due};
+    ghost use Rattle.endorser_cell.specs.CellBank.{AreServed, IsRawFaithful, IsServedRaw, KeepsCalls, bank_view, due_of, has_no_line, more_due};
+    ghost use Rattle.roster_bank.specs.Counting.{served_count};
     ghost use Rattle.roster_bank.specs.Roster.{AllAccept, IsRoster, lists_of, members_of};
     ghost use Rattle.roster_bank.specs.Places.{place_in, place_served, places_served};
 
@@ -68,6 +73,7 @@ impl<'a, G: Scheme, K: RunName> RosterBank<'a, G, K> {
     {
         RosterBank {
             bank: CellBank::new(alloc, clock, cells),
+            served: 0,
         }
     }
 
@@ -116,7 +122,20 @@ impl<'a, G: Scheme, K: RunName> RosterBank<'a, G, K> {
         ensures served { IsServedRaw self.old.log self.new.log id (call_of call.now) result }
         ensures faithful { IsRawFaithful G.Signer.key_of G.Signer.left_of G.Checker.accepts self.old self.new id (call_of call.now) result }
     {
-        self.bank.raw(alloc, id, call)
+        let before = self.bank.log().len();
+        let answer = self.bank.raw(alloc, id, call);
+        self.served = served_with(self.bank.log(), before, self.served);
+        answer
+    }
+
+    /// How many calls the endorsers served so far, over the link or not.
+    pub fn served(&self) -> usize
+        ensures count { result ≡ length (served_by [] self.now.log) }
+
+        // what that is to a caller over the link
+        ensures told { result ≡ served_count (bank_view G.Signer.key_of G.Signer.left_of G.Checker.accepts self.now) }
+    {
+        self.served
     }
 
     /// The place in the roster of the endorser of this id, from 0 on.
@@ -148,7 +167,7 @@ impl<'a, G: Scheme, K: RunName> RosterBank<'a, G, K> {
         ensures served { AreServed self.entry }
         ensures roster { IsRoster G.Signer.key_of G.Checker.accepts K.members K.accepts self.entry }
     {
-        let RosterBank { bank } = self;
+        let RosterBank { bank, served: _ } = self;
         lists_of(alloc, bank.into_cells())
     }
 }
@@ -166,7 +185,10 @@ impl<'a, G: Scheme, K: RunName> Link for RosterBank<'a, G, K> {
         ensures calls { self.new.calls ≡ next self.old.calls }
         ensures fresh { self.new.fresh ≡ self.old.fresh }
     {
-        self.bank.call(alloc, id, call)
+        let before = self.bank.log().len();
+        let answer = self.bank.call(alloc, id, call);
+        self.served = served_with(self.bank.log(), before, self.served);
+        answer
     }
 
     fn faults(&self, id: u32) -> u64 {

@@ -1,8 +1,10 @@
-ghost use Rattle.std.specs.Prelude.{◌≡◌};
+ghost use Rattle.std.specs.Prelude.{◌≡◌, ◌≤◌, ◌+◌, slice_get};
 ghost use Rattle.std.specs.Option.{option_map};
 ghost use Rattle.endorser_core.specs.LineAnswer.{kept_of};
+ghost use Rattle.roster_bank.specs.Counting.{count_in};
 ghost use Rattle.roster_bank.specs.Places.{was_served};
 
+use endorser_cell::BankLine;
 use endorser_core::CellAnswer;
 use port::EndorserRefusal;
 
@@ -13,5 +15,20 @@ pub(crate) fn was_served(answer: &Option<CellAnswer>) -> bool
     match answer {
         Some(CellAnswer::Refused(EndorserRefusal::LogFull)) | None => false,
         Some(_) => true,
+    }
+}
+
+/// How many calls were served, where so many were served before the line of this number, and at most that one came.
+pub(crate) fn served_with(log: &[BankLine], line: usize, served: usize) -> usize
+    requires { served ≤ line }
+    ensures { result ≡ served + count_in (slice_get log.now line) }
+{
+    let Some(line) = log.get(line) else {
+        return served;
+    };
+    if was_served(&line.answer) {
+        served + 1
+    } else {
+        served
     }
 }

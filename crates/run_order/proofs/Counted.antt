@@ -1,19 +1,16 @@
 -- How often each actor stands in the order of a run.
 use Rattle.std.proofs.Common.{◌≡◌, ℕ, zero, suc, ◌+◌, ◌-◌, Bool, true, false, eqb, cond, List, [], ◌∷◌, ◌++◌, map, take, drop, refl, sym, ap, ◌∙◌, arith}
-use Rattle.std.specs.Prelude.{max, filter_map}
-use Rattle.std.specs.List.{count_by, cons_option}
+use Rattle.std.specs.Prelude.{max}
+use Rattle.std.specs.List.{count_by}
 use Rattle.std.proofs.lemmas.List.{drop-drop, take-append-drop}
-use Rattle.std.proofs.lemmas.List.Elements.{filter_map-append}
 use Rattle.std.proofs.lemmas.List.Sums.{sum_by-append, sum_by-cons}
 use Rattle.stamp_clock.specs.Stamps.{times}
-use Rattle.endorser_cell.specs.BankLine.{BankLine}
-use Rattle.roster_bank.specs.Places.{place_served, places_served}
-use Rattle.run_record.specs.declared.actor.Actor.{Actor}
 use Rattle.run_record.specs.declared.actor.Actor.TheVariants.{Endorser, Client}
 use Rattle.run_record.specs.Events.{is_endorser, is_client, count_endorser, count_client, AreCounted}
 use Rattle.client_acts.specs.declared.turn.Turn.{Turn}
 use Rattle.client_acts.specs.Turns.{lines_by}
-use Rattle.run_order.specs.Order.{calls, lines, order_from, order_of}
+use Rattle.run_order.specs.Order.{lines, order_from}
+use Rattle.run_order.proofs.Orders.{events}
 
 abbrev bit : Bool → ℕ
 bit b = cond b 1 0
@@ -63,43 +60,38 @@ of_lines place client (suc n) =
 
 -- ---- the order
 
-split_served : (ids : List ℕ) (place n : ℕ) (log : List BankLine)
-    → times place (places_served ids (take n log)) + times place (places_served ids (drop n log)) ≡ times place (places_served ids log)
-split_served ids place n log =
-    sym (times_both place (places_served ids (take n log)) (places_served ids (drop n log)))
-    ∙ ap (times place) (sym (filter_map-append (place_served ids) (take n log) (drop n log)))
-    ∙ ap (λ (all : List BankLine). times place (places_served ids all)) (take-append-drop n log)
+split_places : (place n : ℕ) (places : List ℕ) → times place (take n places) + times place (drop n places) ≡ times place places
+split_places place n places = sym (times_both place (take n places) (drop n places)) ∙ ap (times place) (take-append-drop n places)
 
-later : (next upto : ℕ) (log : List BankLine) → drop (upto - next) (drop next log) ≡ drop (max next upto) log
-later next upto log = let e : next + (upto - next) ≡ max next upto = omega arith in drop-drop (upto - next) next log ∙ ap (λ (n : ℕ). drop n log) e
+later : (next upto : ℕ) (places : List ℕ) → drop (upto - next) (drop next places) ≡ drop (max next upto) places
+later next upto places = let e : next + (upto - next) ≡ max next upto = omega arith in drop-drop (upto - next) next places ∙ ap (λ (n : ℕ). drop n places) e
 
-pub endorsers_counted : (ids : List ℕ) (log : List BankLine) (next : ℕ) (turns : List Turn) (place : ℕ)
-    → count_endorser place (order_from ids log next turns) ≡ times place (places_served ids (drop next log))
-endorsers_counted ids log next [] place = of_places place (places_served ids (drop next log))
-endorsers_counted ids log next (turn ∷ turns) place =
-    let some = take (turn.calls - next) (drop next log) in
-    let rest = order_from ids log (max next turn.calls) turns in
-    let all = count_three (is_endorser place) (calls ids some) (lines turn.client turn.lines) rest in
-    let first = of_places place (places_served ids some) in
+endorsers_counted : (places : List ℕ) (next : ℕ) (turns : List Turn) (place : ℕ) → count_endorser place (order_from events places next turns) ≡ times place (drop next places)
+endorsers_counted places next [] place = of_places place (drop next places)
+endorsers_counted places next (turn ∷ turns) place =
+    let some = take (turn.calls - next) (drop next places) in
+    let rest = order_from events places (max next turn.calls) turns in
+    let all = count_three (is_endorser place) (events some) (lines turn.client turn.lines) rest in
+    let first = of_places place some in
     let none = no_endorser place turn.client turn.lines in
-    let last = endorsers_counted ids log (max next turn.calls) turns place ∙ ap (λ (more : List BankLine). times place (places_served ids more)) (sym (later next turn.calls log)) in
-    let both = split_served ids place (turn.calls - next) (drop next log) in
+    let last = endorsers_counted places (max next turn.calls) turns place ∙ ap (times place) (sym (later next turn.calls places)) in
+    let both = split_places place (turn.calls - next) (drop next places) in
     omega (arith, all, first, none, last, both)
 
-pub clients_counted : (ids : List ℕ) (log : List BankLine) (next : ℕ) (turns : List Turn) (place : ℕ) → count_client place (order_from ids log next turns) ≡ lines_by place turns
-clients_counted ids log next [] place = no_client place (places_served ids (drop next log))
-clients_counted ids log next (turn ∷ turns) place =
-    let some = take (turn.calls - next) (drop next log) in
-    let rest = order_from ids log (max next turn.calls) turns in
-    let all = count_three (is_client place) (calls ids some) (lines turn.client turn.lines) rest in
-    let none = no_client place (places_served ids some) in
+clients_counted : (places : List ℕ) (next : ℕ) (turns : List Turn) (place : ℕ) → count_client place (order_from events places next turns) ≡ lines_by place turns
+clients_counted places next [] place = no_client place (drop next places)
+clients_counted places next (turn ∷ turns) place =
+    let some = take (turn.calls - next) (drop next places) in
+    let rest = order_from events places (max next turn.calls) turns in
+    let all = count_three (is_client place) (events some) (lines turn.client turn.lines) rest in
+    let none = no_client place some in
     let own = of_lines place turn.client turn.lines in
-    let last = clients_counted ids log (max next turn.calls) turns place in
+    let last = clients_counted places (max next turn.calls) turns place in
     omega (arith, all, none, own, last)
 
-pub counted : (ids : List ℕ) (log : List BankLine) (turns : List Turn) (served acts : ℕ → ℕ)
-    → ((place : ℕ) → served place ≡ times place (places_served ids log)) → ((place : ℕ) → lines_by place turns ≡ acts place) → AreCounted (order_of ids log turns) served acts
-counted ids log turns served acts calls own = record {
-  endorsers = λ place. endorsers_counted ids log 0 turns place ∙ sym (calls place);
-  clients = λ place. clients_counted ids log 0 turns place ∙ own place;
+pub counted : (places : List ℕ) (turns : List Turn) (served acts : ℕ → ℕ)
+    → ((place : ℕ) → served place ≡ times place places) → ((place : ℕ) → lines_by place turns ≡ acts place) → AreCounted (order_from events places 0 turns) served acts
+counted places turns served acts calls own = record {
+  endorsers = λ place. endorsers_counted places 0 turns place ∙ sym (calls place);
+  clients = λ place. clients_counted places 0 turns place ∙ own place;
 }

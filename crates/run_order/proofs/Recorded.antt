@@ -7,7 +7,6 @@ use Rattle.statement.specs.Ids.{IsRising}
 use Rattle.statement.specs.Config.{ids as ids_of}
 use Rattle.stamp_clock.specs.Stamps.{times}
 use Rattle.endorser_core.specs.Line.{Line as CellLine}
-use Rattle.endorser_cell.specs.BankLine.{BankLine}
 use Rattle.view_ledger.specs.Receipts.{Accepts}
 use Rattle.view_ledger.specs.Extension.{AreGenuine}
 use Rattle.view_ledger.specs.Views.{ViewChain}
@@ -15,15 +14,15 @@ use Rattle.client_pass.specs.Act.{Act, Line as ClientLine}
 use Rattle.client_pass.specs.ClientList.{IsClientList}
 use Rattle.client_pass.specs.ClientPass.{ClientPass}
 use Rattle.client_pass.specs.Record.{AreLawful}
-use Rattle.roster_bank.specs.Places.{places_served}
 use Rattle.run_record.specs.declared.actor.Actor.{Actor}
 use Rattle.run_record.specs.Events.{AreEvents, length_at}
 use Rattle.run_record.specs.Stamping.{IsRecordUnstamped, acts_of, given}
 use Rattle.client_acts.specs.declared.turn.Turn.{Turn}
 use Rattle.client_acts.specs.ClientActs.{line_count}
 use Rattle.client_acts.specs.Turns.{lines_by}
-use Rattle.run_order.specs.Order.{order_of}
+use Rattle.run_order.specs.Order.{order_from}
 use Rattle.run_order.proofs.Counted.{counted}
+use Rattle.run_order.proofs.Orders.{events}
 
 module _ {C : Type 0} where
   abbrev pub lines_of : List (ClientPass C) → List (List ClientLine)
@@ -36,16 +35,16 @@ module _ {C : Type 0} where
   count_at (client ∷ clients) (suc place) = count_at clients place
 
   -- each list has a line for each event of its actor
-  pub are_events : (ids : List ℕ) (log : List BankLine) (turns : List Turn) (order : List Actor) (cells : List (List CellLine)) (passes : List (List ClientLine)) (clients : List (ClientPass C))
-      → order ≡ order_of ids log turns
-      → ((place : ℕ) → length (slice_index_or cells place []) ≡ times place (places_served ids log))
+  pub are_events : (places : List ℕ) (turns : List Turn) (order : List Actor) (cells : List (List CellLine)) (passes : List (List ClientLine)) (clients : List (ClientPass C))
+      → order ≡ order_from events places 0 turns
+      → ((place : ℕ) → length (slice_index_or cells place []) ≡ times place places)
       → passes ≡ lines_of clients
       → ((place : ℕ) → lines_by place turns ≡ line_count clients place)
       → AreEvents order cells passes
-  are_events ids log turns order cells passes clients is served own acted =
+  are_events places turns order cells passes clients is served own acted =
       subst (λ (order : List Actor). AreEvents order cells passes) (sym is)
-      (subst (λ (passes : List (List ClientLine)). AreEvents (order_of ids log turns) cells passes) (sym own)
-      (counted ids log turns (length_at cells) (length_at (lines_of clients)) served (λ place. acted place ∙ count_at clients place)))
+      (subst (λ (passes : List (List ClientLine)). AreEvents (order_from events places 0 turns) cells passes) (sym own)
+      (counted places turns (length_at cells) (length_at (lines_of clients)) served (λ place. acted place ∙ count_at clients place)))
 
   all_acts : (clients : List (ClientPass C)) → map acts_of (lines_of clients) ≡ map (λ client. acts_of client.lines) clients
   all_acts [] = refl

@@ -1,43 +1,59 @@
-ghost use Rattle.std.specs.Prelude.{◌≡◌, ◌-◌, ◌++◌, take, drop, slice_get, option_and_then, option_to_list, IfOk, OnOk};
-ghost use Rattle.std.specs.Option.{option_map};
+ghost use Rattle.std.specs.Prelude.{◌≡◌, ◌-◌, ◌++◌, map, take, drop, slice_get, option_and_then, option_to_list, IfOk, OnOk};
 ghost use Rattle.statement.specs.Config.{ids};
-ghost use Rattle.roster_bank.specs.Places.{place_served};
+ghost use Rattle.roster_bank.specs.Places.{place_served, places_served};
 ghost use Rattle.run_record.specs.declared.actor.Actor.TheVariants.{Endorser};
-ghost use Rattle.run_order.specs.Order.{calls, lines, order_of};
+ghost use Rattle.run_order.specs.Order.{lines, order_from};
 
 use client_acts::Turn;
 use nim_base::NoMemory;
-use roster_bank::{RosterBank, RunName};
+use roster_bank::{RosterBank, RunName, places_grow};
 use run_record::Actor;
 use seal::Scheme;
 use std::alloc::Global;
 
-/// Adds the event of this line of the bank's list, if an endorser served it.
-fn push_call<G: Scheme, K: RunName>(
+/// Adds the place of the endorser that served this line of the bank's list, if one did.
+fn push_place<G: Scheme, K: RunName>(
     bank: &RosterBank<'_, G, K>,
     line: usize,
-    order: &mut Vec<Actor>,
+    places: &mut Vec<usize>,
 ) -> Result<(), NoMemory>
-    ensures { OnOk result (order.new.items ≡ order.old.items ++ option_to_list (option_map Endorser (option_and_then (place_served (ids K.members)) (slice_get bank.now.log line)))) }
+    ensures { OnOk result (places.new.items ≡ places.old.items ++ option_to_list (option_and_then (place_served (ids K.members)) (slice_get bank.now.log line))) }
 {
     if let Some(place) = bank.place_served(line) {
-        order.push(Actor::Endorser { place })?;
+        places.push(place)?;
     }
     Ok(())
 }
 
-/// Adds the events of the lines of the bank's list from the first of these numbers up to the second.
-fn push_calls<G: Scheme, K: RunName>(
+/// The place of the endorser of each call that was served, the first call first.
+fn places_served<G: Scheme, K: RunName>(
+    alloc: Global,
     bank: &RosterBank<'_, G, K>,
+) -> Result<Vec<usize>, NoMemory>
+    ensures { IfOk result (λ places. places.items ≡ places_served (ids K.members) bank.now.log) }
+{
+    places_grow();
+    let mut places = Vec::with_capacity(alloc, bank.served())?;
+    for line in 0..bank.log().len() {
+        push_place(bank, line, &mut places)?;
+    }
+    Ok(places)
+}
+
+/// Adds the events of the calls from the first of these numbers up to the second.
+fn push_calls(
+    places: &[usize],
     from: usize,
     upto: usize,
     order: &mut Vec<Actor>,
 ) -> Result<(), NoMemory>
-    ensures { OnOk result (order.new.items ≡ order.old.items ++ calls (ids K.members) (take (upto - from) (drop from bank.now.log))) }
+    ensures { OnOk result (order.new.items ≡ order.old.items ++ map Endorser (take (upto - from) (drop from places.now))) }
 {
-    let end = upto.min(bank.log().len());
-    for line in from..end {
-        push_call(bank, line, order)?;
+    let end = upto.min(places.len());
+    for call in from..end {
+        order.push(Actor::Endorser {
+            place: places[call],
+        })?;
     }
     Ok(())
 }
@@ -52,21 +68,22 @@ fn push_lines(client: usize, count: usize, order: &mut Vec<Actor>) -> Result<(),
     Ok(())
 }
 
-/// Who acted in each event of the run: before the lines of a turn come the calls that were made before it.
+/// Who acted in each event of the run: before the lines of a turn come the calls that had been served then.
 pub(crate) fn order_of<G: Scheme, K: RunName>(
     alloc: Global,
     turns: &[Turn],
     bank: &RosterBank<'_, G, K>,
 ) -> Result<Vec<Actor>, NoMemory>
-    ensures { IfOk result (λ order. order.items ≡ order_of (ids K.members) bank.now.log turns.now) }
+    ensures { IfOk result (λ order. order.items ≡ order_from (map Endorser) (places_served (ids K.members) bank.now.log) 0 turns.now) }
 {
+    let places = places_served(alloc, bank)?;
     let mut order = Vec::new(alloc);
     let mut next = 0;
     for turn in turns {
-        push_calls(bank, next, turn.calls, &mut order)?;
+        push_calls(&places, next, turn.calls, &mut order)?;
         push_lines(turn.client, turn.lines, &mut order)?;
         next = next.max(turn.calls);
     }
-    push_calls(bank, next, bank.log().len(), &mut order)?;
+    push_calls(&places, next, places.len(), &mut order)?;
     Ok(order)
 }

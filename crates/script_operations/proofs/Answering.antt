@@ -1,5 +1,5 @@
 -- What the client of an operation is given.
-use Rattle.std.proofs.Common.{◌≡◌, ℕ, Bool, false, List, slice_get, Some, Result, Ok, Err, inl, inr, refl, sym, ◌∙◌, subst}
+use Rattle.std.proofs.Common.{◌≡◌, ℕ, Bool, false, List, [], slice_get, Some, Result, Ok, Err, inl, inr, refl, sym, ◌∙◌, subst, append-nil}
 use Rattle.std.specs.Prelude.{IfOk, IsTrue, ◌↔◌}
 use Rattle.chain_block.specs.declared.entry.Entry.{Entry}
 use Rattle.chain_block.specs.declared.entry.Entry.TheVariants.{Genesis, Later}
@@ -7,6 +7,8 @@ use Rattle.chain_block.specs.Entry.{bare}
 use Rattle.client_pass.specs.ClientList.{IsAnswered}
 use Rattle.client_pass.specs.ClientPass.{ClientPass}
 use Rattle.client_acts.specs.ClientActs.{ClientActs}
+use Rattle.client_acts.specs.declared.turn.Turn.{Turn}
+use Rattle.client_acts.specs.Turns.{TurnsAt}
 use Rattle.port.specs.declared.refusal.Refusal.{Refusal}
 use Rattle.port.specs.Link.{LinkView}
 use Rattle.port.specs.Reply.{LatestReply, Standing}
@@ -18,6 +20,7 @@ use Rattle.view_ledger.specs.Receipts.{Accepts}
 use Rattle.coordinator.specs.Says.{coordinator_says}
 use Rattle.coordinator.specs.State.{State}
 use Rattle.reply_lines.specs.Lines.{done_line}
+use Rattle.roster_bank.specs.Counting.{served_count}
 use Rattle.answer_lines.specs.Asking.{call_for}
 use Rattle.answer_lines.specs.Draws.{IsOpen}
 use Rattle.answer_lines.specs.Giving.{Gave, OnlyLearned}
@@ -25,7 +28,7 @@ use Rattle.answer_lines.specs.Taken.{TookAt, TookLatest, TookOwn}
 use Rattle.script_operations.specs.Ending.{CameTo, Ends, EndsEntry, EndsLatest}
 use Rattle.script_operations.specs.Giving.{Asks, AsksAnew, Given, GivesEnd, IsDone, WasDone, WasGiven}
 use Rattle.script_operations.specs.Operations.{Begun, InEntry, InNewest, Progress}
-use Rattle.script_operations.specs.Task.{Height, Newest, Own, Task, call_of}
+use Rattle.script_operations.specs.Task.{Height, Newest, Own, Task, call_of, client_of}
 
 pub call_bare : (entry : Entry) → call_for entry ≡ call_for (bare entry)
 call_bare (Genesis nonce payload) = refl
@@ -34,6 +37,14 @@ call_bare (Later handle height nonce payload) = refl
 pub bare_twice : (entry : Entry) → bare (bare entry) ≡ bare entry
 bare_twice (Genesis nonce payload) = refl
 bare_twice (Later handle height nonce payload) = refl
+
+-- so many calls were served then
+pub turned_at : (client calls count : ℕ) (old new : List Turn) → calls ≡ count → TurnsAt client calls old new → TurnsAt client count old new
+turned_at client calls count old new same turned = subst (λ (n : ℕ). TurnsAt client n old new) same turned
+
+-- nobody wrote anything
+pub no_turn : (client calls : ℕ) (turns : List Turn) → TurnsAt client calls turns turns
+no_turn client calls turns = ([], sym (append-nil turns), tt)
 
 -- the client's draw has no accepted reply
 pub opened : {C : Type 0} (clients : List (ClientPass C)) (client draw : ℕ) (said : Bool) → ((pass : ClientPass C) → slice_get clients client ≡ Some pass → IsTrue said ↔ IsAnswered pass.lines draw) → said ≡ false
@@ -100,36 +111,40 @@ module _ {S L C T E : Type 0} (bytes : T → List ℕ) (checks : Accepts) (name 
     done_asked accepts sv lv = more (λ line is. inl (was_done (bytes line) is)) result printed
 
   module _ (accepts : C → Accepts) (sv : S → StoreView) (lv : L → LinkView) (first : State S L C) (learned : OnlyLearned accepts sv lv before after) where
-    pub own_asked : (client draw : ℕ) (entry : Entry) (call : ServiceCall) (answer : ServiceAnswer) → IsOpen old.clients client draw → call ≡ call_for entry → coordinator_says accepts sv lv first before call answer
+    abbrev Turned : ℕ → Type 0
+    Turned client = TurnsAt client (served_count (lv before.link)) old.turns new.turns
+
+    pub own_asked : (client draw : ℕ) (entry : Entry) (call : ServiceCall) (answer : ServiceAnswer) → Turned client → IsOpen old.clients client draw → call ≡ call_for entry → coordinator_says accepts sv lv first before call answer
         → (shown : List ℕ) → shown ≡ label → IfOk result (λ line. Gave old new client before after (λ sides. TookOwn checks sides shown entry answer (bytes line)))
         → IfOk result (λ line. Asks accepts sv lv checks name old new first after (Own client draw entry) label (bytes line))
-    own_asked client draw entry call answer opened same says shown is gave =
+    own_asked client draw entry call answer turned opened same says shown is gave =
         let says_so : coordinator_says accepts sv lv first before (call_of (Own client draw entry)) answer = subst (λ (call : ServiceCall). coordinator_says accepts sv lv first before call answer) same says in
-        more (λ line gave. inr (record { middle = before; answer = answer; says = says_so; given = own_was_given shown is client draw opened entry answer (bytes line) gave; learned = learned })) result gave
+        more (λ line gave. inr (record { middle = before; answer = answer; says = says_so; given = own_was_given shown is client draw opened entry answer (bytes line) gave; learned = learned; turns = turned })) result gave
 
-    pub latest_asked : (client draw : ℕ) (handle nonce : List ℕ) (answer : ServiceAnswer) → IsOpen old.clients client draw
+    pub latest_asked : (client draw : ℕ) (handle nonce : List ℕ) (answer : ServiceAnswer) → Turned client → IsOpen old.clients client draw
         → coordinator_says accepts sv lv first before (call_of (Newest client draw handle nonce)) answer
         → (shown : List ℕ) → shown ≡ label → IfOk result (λ line. Gave old new client before after (λ sides. TookLatest checks sides shown handle nonce answer (bytes line)))
         → IfOk result (λ line. Asks accepts sv lv checks name old new first after (Newest client draw handle nonce) label (bytes line))
-    latest_asked client draw handle nonce answer opened says shown is gave =
-        more (λ line gave. inr (record { middle = before; answer = answer; says = says; given = latest_was_given shown is client draw opened handle nonce answer (bytes line) gave; learned = learned })) result gave
+    latest_asked client draw handle nonce answer turned opened says shown is gave =
+        more (λ line gave. inr (record { middle = before; answer = answer; says = says; given = latest_was_given shown is client draw opened handle nonce answer (bytes line) gave; learned = learned; turns = turned })) result gave
 
-    pub height_asked : (client : ℕ) (handle : List ℕ) (height : ℕ) (answer : ServiceAnswer) → coordinator_says accepts sv lv first before (call_of (Height client handle height)) answer
+    pub height_asked : (client : ℕ) (handle : List ℕ) (height : ℕ) (answer : ServiceAnswer) → Turned client → coordinator_says accepts sv lv first before (call_of (Height client handle height)) answer
         → (shown : List ℕ) → shown ≡ label → IfOk result (λ line. Gave old new client before after (λ sides. TookAt checks sides shown handle height answer (bytes line)))
         → IfOk result (λ line. AsksAnew accepts sv lv checks name old new first after (Height client handle height) label (bytes line))
-    height_asked client handle height answer says shown is gave =
-        more (λ line gave. record { middle = before; answer = answer; says = says; given = record { undone = λ none. none; gave = at_gave shown is client handle height answer (bytes line) gave }; learned = learned }) result gave
+    height_asked client handle height answer turned says shown is gave =
+        more (λ line gave. record { middle = before; answer = answer; says = says; given = record { undone = λ none. none; gave = at_gave shown is client handle height answer (bytes line) gave }; learned = learned; turns = turned }) result gave
 
-    pub height_ends : (client : ℕ) (handle : List ℕ) (height : ℕ) (progress : Progress) (answer : ServiceAnswer) → CameTo sv lv first before (λ events. Ends (accepts first.checker) progress events answer)
+    pub height_ends : (client : ℕ) (handle : List ℕ) (height : ℕ) (progress : Progress) (answer : ServiceAnswer) → Turned client → CameTo sv lv first before (λ events. Ends (accepts first.checker) progress events answer)
         → (shown : List ℕ) → shown ≡ label → IfOk result (λ line. Gave old new client before after (λ sides. TookAt checks sides shown handle height answer (bytes line)))
         → IfOk result (λ line. GivesEnd accepts sv lv checks name old new first after (Height client handle height) label progress (bytes line))
-    height_ends client handle height progress answer came shown is gave =
-        more (λ line gave. record { middle = before; answer = answer; came = came; given = inr (record { undone = λ none. none; gave = at_gave shown is client handle height answer (bytes line) gave }); learned = learned }) result gave
+    height_ends client handle height progress answer turned came shown is gave =
+        more (λ line gave. record { middle = before; answer = answer; came = came; given = inr (record { undone = λ none. none; gave = at_gave shown is client handle height answer (bytes line) gave }); learned = learned; turns = turned }) result gave
 
-    pub ends_given : (task : Task) (progress : Progress) (answer : ServiceAnswer) → CameTo sv lv first before (λ events. Ends (accepts first.checker) progress events answer)
+    pub ends_given : (task : Task) (progress : Progress) (answer : ServiceAnswer) → Turned (client_of task) → CameTo sv lv first before (λ events. Ends (accepts first.checker) progress events answer)
         → IfOk result (λ line. Given checks name task label old new before after answer (bytes line))
         → IfOk result (λ line. GivesEnd accepts sv lv checks name old new first after task label progress (bytes line))
-    ends_given task progress answer came given = more (λ line given. record { middle = before; answer = answer; came = came; given = given; learned = learned }) result given
+    ends_given task progress answer turned came given =
+        more (λ line given. record { middle = before; answer = answer; came = came; given = given; learned = learned; turns = turned }) result given
 
   module _ (accepts : C → Accepts) (sv : S → StoreView) (lv : L → LinkView) (first : State S L C) where
     pub asked_anew : (one begun : Begun) → one ≡ begun → IfOk result (λ line. AsksAnew accepts sv lv checks name old new first after begun.task begun.label (bytes line))

@@ -3,6 +3,7 @@ use Rattle.std.proofs.Common.{◌≡◌, ◌≤◌, ◌<◌, ℕ, true, false, L
 use Rattle.std.specs.Prelude.{IfOk, IfSome, IfNone, MatchOption}
 use Rattle.std.specs.List.{AllByRecursion}
 use Rattle.client_acts.specs.ClientActs.{ClientActs}
+use Rattle.client_acts.specs.Turns.{TurnsAt}
 use Rattle.name_map.specs.NameMap.{means}
 use Rattle.port.specs.Link.{LinkView}
 use Rattle.port.specs.Reply.{LatestReply}
@@ -10,11 +11,12 @@ use Rattle.port.specs.Store.{StoreView}
 use Rattle.view_ledger.specs.Receipts.{Accepts}
 use Rattle.coordinator.specs.State.{State}
 use Rattle.answer_lines.specs.Giving.{OnlyLearned}
+use Rattle.roster_bank.specs.Counting.{served_count}
 use Rattle.script_operations.specs.declared.operation.Operation.{Operation}
 use Rattle.script_operations.specs.Giving.{Asks, GivesEnd, HasFinished, HasGiven, HasRetried, NoneReads, TakesReply}
 use Rattle.script_operations.specs.Operations.{Begun, Closed, InEntry, InNewest, IsNamed, IsOpen, IsOpenRead, NoneIsOpen, Operations, Progress, at_progress, begun_of, is_open, task_in, tasks_of, with_begun}
 use Rattle.script_operations.specs.Stepping.{Steps, StepsNamed}
-use Rattle.script_operations.specs.Task.{Task}
+use Rattle.script_operations.specs.Task.{Task, client_of}
 use Rattle.script_operations.proofs.Tasks.{get_seen, map_set, one_of, seen_same, set_same, stood}
 
 -- what is seen of the fields
@@ -141,19 +143,20 @@ module _ (was : Operations) (name : List ℕ) (place : ℕ) (begun : Begun) (is 
       }
 
       -- its client was given a reply
-      pub given : OnlyLearned accepts sv lv before after → (reply : LatestReply) (next : Begun) (result : Result (Option T) E) → was.open_from ≤ place → now ≡ with_begun was place next
+      pub given : OnlyLearned accepts sv lv before after → TurnsAt (client_of begun.task) (served_count (lv before.link)) old.turns new.turns → (reply : LatestReply) (next : Begun) (result : Result (Option T) E) → was.open_from ≤ place → now ≡ with_begun was place next
           → IfOk result (λ line. MatchOption line ((IsOpenRead begun → ⊥) × (next ≡ begun) × (new ≡ old) × (after ≡ before))
           (λ line. (next ≡ at_progress begun Closed) × TakesReply checks name begun old new before after reply (bytes line)))
           → IfOk result (λ line. MatchOption line (NoneReads was name × (now ≡ was) × (new ≡ old) × (after ≡ before))
           (λ line. HasGiven accepts sv lv checks name old new before after was now reply (bytes line)))
-      given learned reply next (Err e) since same said = tt
-      given learned reply next (Ok None) since same said = (none_reads said.0, same ∙ ap (with_begun was place) said.1 ∙ with_same, said.2, said.3)
-      given learned reply next (Ok (Some line)) since same said = record {
+      given learned turned reply next (Err e) since same said = tt
+      given learned turned reply next (Ok None) since same said = (none_reads said.0, same ∙ ap (with_begun was place) said.1 ∙ with_same, said.2, said.3)
+      given learned turned reply next (Ok (Some line)) since same said = record {
         place = place;
         begun = begun;
         found = record { is = is; since = since; going = said.1.reads.5 };
         takes = said.1;
         learned = learned;
+        turns = turned;
         closed = same ∙ ap (with_begun was place) said.0;
       }
 
@@ -198,13 +201,13 @@ module _ (items : List Operation) (names : List (List ℕ × ℕ)) (open_from : 
     one_finished next result since closed said =
         finished was name place (begun_of one) here accepts sv lv checks old new before after bytes (set_to next) result since (set_is next (at_progress (begun_of one) Closed) closed) said
 
-    pub one_given : OnlyLearned accepts sv lv before after → (reply : LatestReply) (next : Operation) (result : Result (Option T) E) → was.open_from ≤ place
+    pub one_given : OnlyLearned accepts sv lv before after → TurnsAt (client_of (begun_of one).task) (served_count (lv before.link)) old.turns new.turns → (reply : LatestReply) (next : Operation) (result : Result (Option T) E) → was.open_from ≤ place
         → IfOk result (λ line. MatchOption line ((IsOpenRead (begun_of one) → ⊥) × (begun_of next ≡ begun_of one) × (new ≡ old) × (after ≡ before))
         (λ line. (begun_of next ≡ at_progress (begun_of one) Closed) × TakesReply checks name (begun_of one) old new before after reply (bytes line)))
         → IfOk result (λ line. MatchOption line (NoneReads was name × (seen_of (slice_set items place next) names open_from ≡ was) × (new ≡ old) × (after ≡ before))
         (λ line. HasGiven accepts sv lv checks name old new before after was (seen_of (slice_set items place next) names open_from) reply (bytes line)))
-    one_given learned reply next result since said =
-        given was name place (begun_of one) here accepts sv lv checks old new before after bytes (set_to next) learned reply (begun_of next) result since (set_is next (begun_of next) refl) said
+    one_given learned turned reply next result since said =
+        given was name place (begun_of one) here accepts sv lv checks old new before after bytes (set_to next) learned turned reply (begun_of next) result since (set_is next (begun_of next) refl) said
 
   pub one_retried : {S L C : Type 0} (accepts : C → Accepts) (sv : S → StoreView) (lv : L → LinkView) (checks : Accepts) (old new : ClientActs C) (before after : State S L C) (line : List ℕ)
       → Asks accepts sv lv checks name old new before after (begun_of one).task (begun_of one).label line → HasRetried accepts sv lv checks name old new before after was line

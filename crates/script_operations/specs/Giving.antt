@@ -8,9 +8,11 @@ use Rattle.view_ledger.specs.Receipts.{Accepts}
 use Rattle.client_pass.specs.ClientList.{IsAnswered}
 use Rattle.client_pass.specs.ClientPass.{ClientPass}
 use Rattle.client_acts.specs.ClientActs.{ClientActs}
+use Rattle.client_acts.specs.Turns.{TurnsAt}
 use Rattle.coordinator.specs.Says.{coordinator_says}
 use Rattle.coordinator.specs.State.{State}
 use Rattle.reply_lines.specs.Lines.{done_line}
+use Rattle.roster_bank.specs.Counting.{served_count}
 use Rattle.answer_lines.specs.Draws.{OfClient}
 use Rattle.answer_lines.specs.Giving.{Gave, OnlyLearned}
 use Rattle.answer_lines.specs.Taken.{Sides, TookAt, TookLatest, TookOwn}
@@ -53,13 +55,15 @@ pub record TakesReply {S L C : Type 0} (checks : Accepts) (name : List ℕ) (beg
   pub given : Given checks name begun.task begun.label old new before after (Replied reply) line
 
 module _ {S L C : Type 0} (accepts : C → Accepts) (store_view : S → StoreView) (link_view : L → LinkView) (checks : Accepts) (name : List ℕ) (old new : ClientActs C) (before after : State S L C) where
-  -- The operation was led to an answer, which its client was given. Whatever the client learned on the way to its check, it learned by views.
+  -- The operation was led to an answer, which its client was given. Whatever the client learned on the way to its check, it learned by views, and
+  -- whatever it wrote, it wrote after the calls that had been served then.
   pub record GivesEnd (task : Task) (label : List ℕ) (progress : Progress) (line : List ℕ) : Type 0 where
     pub middle : State S L C
     pub answer : ServiceAnswer
     pub came : CameTo store_view link_view before middle (λ events. Ends (accepts before.checker) progress events answer)
     pub given : Given checks name task label old new middle after answer line
     pub learned : OnlyLearned accepts store_view link_view middle after
+    pub turns : TurnsAt (client_of task) (served_count (link_view middle.link)) old.turns new.turns
 
   -- The coordinator was asked anew, and the client was given its answer, unless it has an accepted reply already.
   pub record AsksAnew (task : Task) (label line : List ℕ) : Type 0 where
@@ -68,6 +72,7 @@ module _ {S L C : Type 0} (accepts : C → Accepts) (store_view : S → StoreVie
     pub says : coordinator_says accepts store_view link_view before middle (call_of task) answer
     pub given : WasGiven checks name task label old new middle after answer line
     pub learned : OnlyLearned accepts store_view link_view middle after
+    pub turns : TurnsAt (client_of task) (served_count (link_view middle.link)) old.turns new.turns
 
   abbrev pub Asks : Task → List ℕ → List ℕ → Type 0
   Asks task label line = WasDone checks name task label old new before after line ⊎ AsksAnew task label line
@@ -94,6 +99,7 @@ module _ {S L C : Type 0} (accepts : C → Accepts) (store_view : S → StoreVie
     pub found : IsOpen was name place begun
     pub takes : TakesReply checks name begun old new before after reply line
     pub learned : OnlyLearned accepts store_view link_view before after
+    pub turns : TurnsAt (client_of begun.task) (served_count (link_view before.link)) old.turns new.turns
     pub closed : now ≡ with_begun was place (at_progress begun Closed)
 
 -- no read of a newest row has this name and is open

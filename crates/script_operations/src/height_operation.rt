@@ -10,6 +10,7 @@ ghost use Rattle.script_operations.specs.Operations.{Closed, IsFresh, height_pro
 ghost use Rattle.script_operations.specs.Stepping.{GoesFor, Steps};
 ghost use Rattle.script_operations.specs.Task.{HasDraw, Height};
 
+use crate::served::served_so_far;
 use answer_lines::give_at;
 use client_acts::{ClientActs, clients_stay_on};
 use coordinator::Coordinator;
@@ -140,7 +141,7 @@ impl HeightAsked {
             (Height self.now.client self.now.handle self.now.height) self.now.label.bytes (height_progress (Some op)) line.bytes) }
     {
         let answer = answer_of(alloc, op, coordinator);
-        let calls = coordinator.link().log().len();
+        let calls = served_so_far(coordinator);
         give_at(
             alloc,
             acts,
@@ -168,7 +169,7 @@ impl HeightAsked {
             (Height self.now.client self.now.handle self.now.height) self.now.label.bytes line.bytes) }
     {
         let answer = coordinator.at(alloc, &self.handle, self.height);
-        let calls = coordinator.link().log().len();
+        let calls = served_so_far(coordinator);
         give_at(
             alloc,
             acts,

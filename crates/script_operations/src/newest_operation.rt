@@ -2,10 +2,12 @@
 ghost use Rattle.std.specs.Prelude.{◌≡◌, true, Some, IfOk, IfSome, IfNone, MatchOption};
 ghost use Rattle.answer_lines.specs.Giving.{OnlyLearned};
 ghost use Rattle.client_acts.specs.ClientActs.{StaysOn};
+ghost use Rattle.client_acts.specs.Turns.{TurnsAt};
 ghost use Rattle.endorser_cell.specs.CellBank.{bank_view};
 ghost use Rattle.op_latest.specs.LatestSound.{LatestSound};
 ghost use Rattle.op_latest.specs.LatestState.{is_live, outcome_of};
 ghost use Rattle.port.specs.Service.{Replied, replied};
+ghost use Rattle.roster_bank.specs.Counting.{served_count};
 ghost use Rattle.script_operations.specs.Ending.{CameTo, EndsLatest};
 ghost use Rattle.script_operations.specs.Giving.{Asks, Given, GivesEnd};
 ghost use Rattle.script_operations.specs.Operations.{Closed, IsFresh, is_open, newest_progress};
@@ -13,6 +15,7 @@ ghost use Rattle.script_operations.specs.Stepping.{GoesFor, Steps};
 ghost use Rattle.script_operations.specs.Task.{HasDraw, Newest};
 
 use crate::reading::Reading;
+use crate::served::served_so_far;
 use answer_lines::give_latest;
 use client_acts::{ClientActs, clients_stay_on};
 use coordinator::Coordinator;
@@ -137,6 +140,7 @@ impl NewestOperation {
         ensures stays { StaysOn acts.old acts.new }
         ensures checker { coordinator.new.checker ≡ coordinator.old.checker }
         ensures learned { OnlyLearned G.Checker.accepts S.view (bank_view G.Signer.key_of G.Signer.left_of G.Checker.accepts) coordinator.old coordinator.new }
+        ensures turns { TurnsAt self.old.asked.client (served_count (bank_view G.Signer.key_of G.Signer.left_of G.Checker.accepts coordinator.old.link)) acts.old.turns acts.new.turns }
         ensures given { IfOk result (λ line. MatchOption line ((newest_progress self.old.running ≡ Closed) × (acts.new ≡ acts.old) × (coordinator.new ≡ coordinator.old)) (λ line.
             (is_open (newest_progress self.old.running) ≡ true) × Given K.accepts name.now (Newest self.old.asked.client self.old.asked.draw self.old.asked.handle self.old.asked.nonce) self.old.asked.label.bytes acts.old acts.new coordinator.old coordinator.new (Replied reply) line.bytes)) }
     {
@@ -188,13 +192,14 @@ impl NewestAsked {
         ensures stays { StaysOn acts.old acts.new }
         ensures checker { coordinator.new.checker ≡ coordinator.old.checker }
         ensures learned { OnlyLearned G.Checker.accepts S.view (bank_view G.Signer.key_of G.Signer.left_of G.Checker.accepts) coordinator.old coordinator.new }
+        ensures turns { TurnsAt self.now.client (served_count (bank_view G.Signer.key_of G.Signer.left_of G.Checker.accepts coordinator.old.link)) acts.old.turns acts.new.turns }
         ensures given { IfOk result (λ line. Given K.accepts name.now (Newest self.now.client self.now.draw self.now.handle self.now.nonce) self.now.label.bytes acts.old acts.new coordinator.old coordinator.new (replied answer) line.bytes) }
     {
         clients_stay_on::<G::Checker>();
         if acts.is_answered(self.client, self.draw) {
             return done_line(alloc, name);
         }
-        let calls = coordinator.link().log().len();
+        let calls = served_so_far(coordinator);
         give_latest(
             alloc,
             acts,
@@ -247,7 +252,7 @@ impl NewestAsked {
             return done_line(alloc, name);
         }
         let answer = coordinator.latest(alloc, &self.handle, &self.nonce);
-        let calls = coordinator.link().log().len();
+        let calls = served_so_far(coordinator);
         give_latest(
             alloc,
             acts,

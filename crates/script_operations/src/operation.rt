@@ -2,11 +2,13 @@
 ghost use Rattle.std.specs.Prelude.{◌≡◌, ℕ, List, true, IfOk, IfSome, IfNone, MatchOption};
 ghost use Rattle.answer_lines.specs.Giving.{OnlyLearned};
 ghost use Rattle.client_acts.specs.ClientActs.{StaysOn};
+ghost use Rattle.client_acts.specs.Turns.{TurnsAt};
 ghost use Rattle.endorser_cell.specs.CellBank.{bank_view};
+ghost use Rattle.roster_bank.specs.Counting.{served_count};
 ghost use Rattle.script_operations.specs.Giving.{Asks, GivesEnd, TakesReply};
 ghost use Rattle.script_operations.specs.Operations.{Closed, IsOpenRead, Progress, at_progress, begun_of, is_open};
 ghost use Rattle.script_operations.specs.Stepping.{Steps};
-ghost use Rattle.script_operations.specs.Task.{HasDraw, Newest};
+ghost use Rattle.script_operations.specs.Task.{HasDraw, Newest, client_of};
 
 use crate::height_operation::HeightOperation;
 use crate::newest_operation::NewestOperation;
@@ -110,6 +112,7 @@ impl Operation {
         ensures stays { StaysOn acts.old acts.new }
         ensures checker { coordinator.new.checker ≡ coordinator.old.checker }
         ensures learned { OnlyLearned G.Checker.accepts S.view (bank_view G.Signer.key_of G.Signer.left_of G.Checker.accepts) coordinator.old coordinator.new }
+        ensures turns { TurnsAt (client_of (begun_of self.old).task) (served_count (bank_view G.Signer.key_of G.Signer.left_of G.Checker.accepts coordinator.old.link)) acts.old.turns acts.new.turns }
         ensures given { IfOk result (λ line. MatchOption line ((IsOpenRead (begun_of self.old) → ⊥) × (begun_of self.new ≡ begun_of self.old) × (acts.new ≡ acts.old) × (coordinator.new ≡ coordinator.old)) (λ line.
             (begun_of self.new ≡ at_progress (begun_of self.old) Closed) × TakesReply K.accepts name.now (begun_of self.old) acts.old acts.new coordinator.old coordinator.new reply line.bytes)) }
         ensures task { (begun_of self.new).task ≡ (begun_of self.old).task }

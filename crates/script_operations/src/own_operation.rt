@@ -3,14 +3,17 @@ ghost use Rattle.std.specs.Prelude.{◌≡◌, Some, IfOk, MatchOption};
 ghost use Rattle.chain_block.specs.Entry.{IsWithinLimits, bare};
 ghost use Rattle.answer_lines.specs.Giving.{OnlyLearned};
 ghost use Rattle.client_acts.specs.ClientActs.{StaysOn};
+ghost use Rattle.client_acts.specs.Turns.{TurnsAt};
 ghost use Rattle.endorser_cell.specs.CellBank.{bank_view};
 ghost use Rattle.port.specs.Service.{stood};
+ghost use Rattle.roster_bank.specs.Counting.{served_count};
 ghost use Rattle.script_operations.specs.Giving.{Asks, Given, GivesEnd};
 ghost use Rattle.script_operations.specs.Operations.{Closed, IsFresh, own_progress};
 ghost use Rattle.script_operations.specs.Stepping.{Steps};
 ghost use Rattle.script_operations.specs.Task.{HasDraw, Own};
 
 use crate::own_run::OwnRun;
+use crate::served::served_so_far;
 use answer_lines::{ask_own, give_own};
 use chain_block::Entry;
 use client_acts::{ClientActs, clients_stay_on};
@@ -142,13 +145,14 @@ impl OwnAsked {
         ensures stays { StaysOn acts.old acts.new }
         ensures checker { coordinator.new.checker ≡ coordinator.old.checker }
         ensures learned { OnlyLearned G.Checker.accepts S.view (bank_view G.Signer.key_of G.Signer.left_of G.Checker.accepts) coordinator.old coordinator.new }
+        ensures turns { TurnsAt self.now.client (served_count (bank_view G.Signer.key_of G.Signer.left_of G.Checker.accepts coordinator.old.link)) acts.old.turns acts.new.turns }
         ensures given { IfOk result (λ line. Given K.accepts name.now (Own self.now.client self.now.draw (bare self.now.entry)) self.now.label.bytes acts.old acts.new coordinator.old coordinator.new (stood answer) line.bytes) }
     {
         clients_stay_on::<G::Checker>();
         if acts.is_answered(self.client, self.draw) {
             return done_line(alloc, name);
         }
-        let calls = coordinator.link().log().len();
+        let calls = served_so_far(coordinator);
         give_own(
             alloc,
             acts,
@@ -200,7 +204,7 @@ impl OwnAsked {
             return done_line(alloc, name);
         }
         let answer = ask_own(alloc, coordinator, &self.entry);
-        let calls = coordinator.link().log().len();
+        let calls = served_so_far(coordinator);
         give_own(
             alloc,
             acts,

@@ -49,4 +49,7 @@ pub mod OperationsSigned
 pub mod LinesSigned
 pub mod RequestsSigned
 pub mod MarksSigned
+pub mod Ordered
+pub mod LineTurns
+pub mod InOrder
 pub mod RunFronts

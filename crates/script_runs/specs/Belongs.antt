@@ -7,12 +7,14 @@ use Rattle.script_world.specs.Running.{Running}
 use Rattle.script_runs.specs.Accepted.{AllAccepted}
 use Rattle.script_runs.specs.AskedFor.{LossesWereAskedFor, StoreFaultsWereAskedFor}
 use Rattle.script_runs.specs.BadReplies.{NoneRefusedElse}
+use Rattle.statement.specs.Config.{ids as ids_of}
 use Rattle.script_runs.specs.Begins.{Begins, first_ids}
 use Rattle.script_runs.specs.CallRules.{AppendedOnce, EntriesWereDrawn, OthersAreOwn}
 use Rattle.script_runs.specs.OneView.{AllKnowAlone}
 use Rattle.script_runs.specs.Roster.{all_members, members_by}
 use Rattle.script_runs.specs.Runs.{AllCanRun, Runs}
 use Rattle.script_runs.specs.SignedMarks.{AllSigned}
+use Rattle.script_runs.specs.Stamps.{AllInOrder, events_of}
 
 module _ {S C : Type 0} (key : S → List ℕ) (left size : S → ℕ) (signs : S → List ℕ → List ℕ → S → Type 0) (fit : S → C → Type 0) (accepts : C → Accepts) (key_of : ℕ → List ℕ) (left_of : ℕ → ℕ) (checks : Accepts)
     (ids : List ℕ) where
@@ -30,6 +32,9 @@ module _ {S C : Type 0} (key : S → List ℕ) (left size : S → ℕ) (signs : 
     pub once : AppendedOnce key left size signs fit accepts key_of left_of checks [] [] script first last printed runs
     -- each line has only the calls served that are its own
     pub own : OthersAreOwn key left size signs fit accepts key_of left_of checks script first last printed runs
+    -- there are no events before it, and those of each line have one run of consecutive stamps, in the order of the lines: a draw, then its calls, then what clients check
+    pub unbegun : events_of (ids_of (all_members key_of)) first ≡ []
+    pub ordered : AllInOrder key left size signs fit accepts key_of left_of checks script first last printed runs
     -- but for those of an offer or a forged reply, the marks of what clients check were signed before
     pub signed : AllSigned key left size signs fit accepts key_of left_of checks script first last printed runs
     -- no more losses and failures are told than were asked for

@@ -9,5 +9,6 @@ pub mod BadReplies
 pub mod OwnCalls
 pub mod CallRules
 pub mod SignedMarks
+pub mod Stamps
 pub mod AskedFor
 pub mod Belongs

@@ -21,6 +21,9 @@ use Rattle.endorser_cell.specs.Asking.{LosesMore}
 use Rattle.endorser_cell.specs.CellBank.{AreServed, CellBank, bank_view}
 use Rattle.endorser_cell.specs.declared.losses.Loss.{Loss}
 use Rattle.endorser_cell.specs.declared.losses.Loss.TheVariants as losses
+use Rattle.client_acts.specs.declared.turn.Turn.{Turn}
+use Rattle.client_acts.specs.Turns.{turn_of}
+use Rattle.roster_bank.specs.Counting.{served_count}
 use Rattle.coordinator.specs.Entries.{first_entry, later_entry}
 use Rattle.coordinator.specs.First.{SaysOfFirst}
 use Rattle.reply_lines.specs.Causes.{refusal_line}
@@ -86,6 +89,14 @@ Began old new place (requests.Append client label height payload) = BeganAppend 
 Began old new place (requests.Latest client label) = BeganLatest old new place
 Began old new place (requests.At client label height) = new ≡ old
 Began old new place (requests.Reconfigure ids) = ⊥
+
+-- the turn of what it draws at once, after so many calls
+abbrev pub turns_begun : ℕ → ℕ → Request → List Turn
+turns_begun place calls (requests.New client label payload) = turn_of place calls 1 ∷ []
+turns_begun place calls (requests.Append client label height payload) = turn_of place calls 1 ∷ []
+turns_begun place calls (requests.Latest client label) = turn_of place calls 1 ∷ []
+turns_begun place calls (requests.At client label height) = []
+turns_begun place calls (requests.Reconfigure ids) = []
 
 -- An operation for it was opened under this name: it is of the client at this place, and of the draw that the client made.
 abbrev pub Opens : {L C : Type 0} → Running L C → Running L C → ℕ → List ℕ → Request → Type 0
@@ -167,6 +178,7 @@ module _ {S C : Type 0} (key : S → List ℕ) (left size : S → ℕ) (signs : 
       pub came : CameAs accepts checks old asking (client_in request) place
       pub began : Began (world_of asking) (world_of new) place request
       pub opens : Opens asking new place op request
+      pub turns : new.turns ≡ asking.turns ++ turns_begun place (served_count (bank_view key left accepts asking.state.link)) request
       pub goes : GoesOn (world_of asking) (world_of new)
       pub none : said ≡ []
 

@@ -5,6 +5,7 @@ ghost use Rattle.view_ledger.specs.Receipts.{Accepts};
 
 use crate::accepted_replies::replies_are_accepted;
 use crate::asked_for::{losses_were_asked_for, store_faults_were_asked_for};
+use crate::event_order::events_are_in_order;
 use crate::own_calls::{appends_are_one, entries_were_drawn, other_calls_are_own};
 use crate::signed_marks::marks_were_signed;
 use seal::{Checker, Scheme, Signer};
@@ -18,6 +19,7 @@ pub fn runs_belong_to_scripts<G: Scheme>()
     entries_were_drawn::<G>();
     appends_are_one::<G>();
     other_calls_are_own::<G>();
+    events_are_in_order::<G>();
     marks_were_signed::<G>();
     losses_were_asked_for::<G>();
     store_faults_were_asked_for::<G>();

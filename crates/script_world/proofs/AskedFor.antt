@@ -1,5 +1,5 @@
 -- A client that drew, asked and took the answer.
-use Rattle.std.proofs.Common.{◌≡◌, ◌<◌, ℕ, zero, suc, List, [], ◌∷◌, length, slice_get, slice_set, Option, Some, None, refl, sym, ap, subst, ◌∙◌, arith}
+use Rattle.std.proofs.Common.{◌≡◌, ◌<◌, ℕ, zero, suc, List, [], ◌∷◌, ◌++◌, length, slice_get, slice_set, Option, Some, None, refl, sym, ap, subst, ◌∙◌, arith, append-nil}
 use Rattle.chain_block.specs.declared.entry.Entry.{Entry}
 use Rattle.blob_store.specs.declared.lying_store.LyingStore.{LyingStore}
 use Rattle.blob_store.specs.LyingStore.{lying_view}
@@ -12,6 +12,9 @@ use Rattle.client_pass.specs.ClientPass.{ClientPass, Notes}
 use Rattle.coordinator.specs.Says.{coordinator_says}
 use Rattle.coordinator.specs.State.{State}
 use Rattle.reply_taking.specs.Learning.{Grows}
+use Rattle.client_acts.specs.declared.turn.Turn.{Turn}
+use Rattle.client_acts.specs.Turns.{TurnsAt, turn_of}
+use Rattle.roster_bank.specs.Counting.{served_count}
 use Rattle.client_acts.specs.ClientActs.{Acts, ClientActs, Each, IsOf, StaysOn}
 use Rattle.answer_lines.specs.Draws.{IsOpen}
 use Rattle.answer_lines.specs.Giving.{Gave, OnlyLearned}
@@ -61,8 +64,10 @@ module _ {L C : Type 0} (accepts : C → Accepts) (link_view : L → LinkView) (
       → coordinator_says accepts lying_view link_view before middle call answer
       → Gave drawn new place middle after (λ sides. took checks sides answer)
       → OnlyLearned accepts lying_view link_view middle after
+      → (asked taken : ℕ) → asked ≡ served_count (link_view before.link) → taken ≡ served_count (link_view middle.link)
+      → drawn.turns ≡ old.turns ++ turn_of place asked 1 ∷ [] → TurnsAt place taken drawn.turns new.turns
       → Asked accepts link_view (seen before old) (seen after new) place (Some act) call took
-  asked_after_draw old drawn new before middle after place act call answer took each drew says gave learned =
+  asked_after_draw old drawn new before middle after place act call answer took each drew says gave learned asked taken asked_then taken_then one turned =
       let was : ClientPass C = drew.0 in
       let is : ClientPass C = drew.1 in
       let between : ClientPass C = gave.0 in
@@ -85,6 +90,9 @@ module _ {L C : Type 0} (accepts : C → Accepts) (link_view : L → LinkView) (
         taken = subst (λ (by : Accepts). took by (record { from = is; to = to; before = middle; after = after }) answer) agrees
             (subst (λ (pass : ClientPass C). took checks (record { from = pass; to = to; before = middle; after = after }) answer) same gave.3);
         learned = learned;
+        turns = subst (λ (turns : List Turn). TurnsAt place (served_count (link_view middle.link)) turns new.turns)
+            (one ∙ ap (λ (calls : ℕ). old.turns ++ turn_of place calls 1 ∷ []) asked_then)
+            (subst (λ (calls : ℕ). TurnsAt place calls drawn.turns new.turns) taken_then turned);
         first = gave.2.first ∙ drew.2.first;
       }
 
@@ -94,8 +102,9 @@ module _ {L C : Type 0} (accepts : C → Accepts) (link_view : L → LinkView) (
       → coordinator_says accepts lying_view link_view before middle call answer
       → Gave old new place middle after (λ sides. took checks sides answer)
       → OnlyLearned accepts lying_view link_view middle after
+      → (taken : ℕ) → taken ≡ served_count (link_view middle.link) → TurnsAt place taken old.turns new.turns
       → Asked accepts link_view (seen before old) (seen after new) place None call took
-  asked_at_once old new before middle after place call answer took each says gave learned =
+  asked_at_once old new before middle after place call answer took each says gave learned taken taken_then turned =
       let was : ClientPass C = gave.0 in
       let to : ClientPass C = gave.1 in
       let agrees : checks ≡ accepts was.checker = sym (each place was gave.2.stood).1 in
@@ -112,5 +121,7 @@ module _ {L C : Type 0} (accepts : C → Accepts) (link_view : L → LinkView) (
         grows = gave.2.grows;
         taken = subst (λ (by : Accepts). took by (record { from = was; to = to; before = middle; after = after }) answer) agrees gave.3;
         learned = learned;
+        turns = subst (λ (turns : List Turn). TurnsAt place (served_count (link_view middle.link)) turns new.turns) (sym (append-nil old.turns))
+            (subst (λ (calls : ℕ). TurnsAt place calls old.turns new.turns) taken_then turned);
         first = gave.2.first;
       }

@@ -1,5 +1,5 @@
 -- What it makes of a run that an operation is begun.
-use Rattle.std.proofs.Common.{◌≡◌, ℕ, ◌+◌, List, Option, Some, None, refl, ap, subst, ◌∙◌}
+use Rattle.std.proofs.Common.{◌≡◌, ℕ, ◌+◌, List, [], ◌∷◌, ◌++◌, Option, Some, None, refl, ap, subst, ◌∙◌}
 use Rattle.chain_block.specs.declared.entry.Entry.{Entry}
 use Rattle.chain_block.specs.declared.entry.Entry.TheVariants as entries
 use Rattle.chain_block.specs.Entry.{bare, handle_of, nonce_of, IsWithinLimits}
@@ -8,6 +8,9 @@ use Rattle.client_pass.specs.Act.{Draw}
 use Rattle.coordinator.specs.Entries.{first_entry, later_entry}
 use Rattle.coordinator.specs.State.{State}
 use Rattle.client_acts.specs.ClientActs.{ClientActs}
+use Rattle.client_acts.specs.Turns.{turn_of}
+use Rattle.port.specs.Link.{LinkView}
+use Rattle.roster_bank.specs.Counting.{served_count}
 use Rattle.name_map.specs.NameMap.{means, with_name}
 use Rattle.script_operations.specs.Operations.{Operations}
 use Rattle.script_world.specs.Begun.{BeganAppend, BeganLatest, BeganNew, DrewOf, DrewOnly}
@@ -66,6 +69,15 @@ module _ {L C : Type 0} (state : State LyingStore L C) (acts after : ClientActs 
         drew = drew_only ledgers ledgers draws more None (subst (λ (drawn : List ℕ). DrewOf acts after place (Draw drawn None)) is drew) next;
         labels = refl;
       })
+
+-- the turn of a beginning's draw, by the run before
+module _ {L C : Type 0} (link_view : L → LinkView) (old : Running L C) (state : State LyingStore L C) (acts after : ClientActs C) (operations : Operations) (ledgers : List (List ℕ × List ℕ)) (draws : ℕ)
+    (view : value state acts operations ledgers draws ≡ old) where
+  pub turn_begun : (place calls : ℕ) → calls ≡ served_count (link_view state.link) → after.turns ≡ acts.turns ++ turn_of place calls 1 ∷ []
+      → after.turns ≡ old.turns ++ turn_of place (served_count (link_view old.state.link)) 1 ∷ []
+  turn_begun place calls count one =
+      subst (λ (old : Running L C). after.turns ≡ old.turns ++ turn_of place (served_count (link_view old.state.link)) 1 ∷ []) view
+      (one ∙ ap (λ (n : ℕ). acts.turns ++ turn_of place n 1 ∷ []) count)
 
 -- the entry of a beginning, by the run before
 module _ {L C : Type 0} (old : Running L C) (state : State LyingStore L C) (acts : ClientActs C) (operations : Operations) (ledgers : List (List ℕ × List ℕ)) (draws : ℕ) (view : value state acts operations ledgers draws ≡ old) where

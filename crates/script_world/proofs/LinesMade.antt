@@ -38,6 +38,7 @@ module _ {L C : Type 0} (accepts : C → Accepts) (link_view : L → LinkView) (
     grows = asked.grows;
     taken = asked.taken;
     learned = asked.learned;
+    turns = asked.turns;
     first = asked.first;
   }
 

@@ -12,6 +12,9 @@ use Rattle.coordinator.specs.Entries.{first_entry, later_entry}
 use Rattle.coordinator.specs.Says.{coordinator_says}
 use Rattle.coordinator.specs.State.{State}
 use Rattle.reply_taking.specs.Learning.{Grows}
+use Rattle.client_acts.specs.declared.turn.Turn.{Turn}
+use Rattle.client_acts.specs.Turns.{TurnsAt, turn_of}
+use Rattle.roster_bank.specs.Counting.{served_count}
 use Rattle.script_world.specs.Labels.{handle_for, with_label}
 use Rattle.script_world.specs.Nonce.{nonce}
 use Rattle.answer_lines.specs.Giving.{OnlyLearned}
@@ -23,8 +26,14 @@ abbrev pub Drew : {C : Type 0} → Option Act → ClientPass C → ClientPass C 
 Drew None from drawn = drawn ≡ from
 Drew (Some act) from drawn = Notes from drawn act
 
+-- the turn of a draw, which has its one line
+abbrev pub turns_drawn : Option Act → ℕ → ℕ → List Turn
+turns_drawn None place calls = []
+turns_drawn (Some act) place calls = turn_of place calls 1 ∷ []
+
 -- The client at this place drew, asked the coordinator for something and took its answer. Whatever it learned on the way to its check, it
--- learned by views. All other clients are as they were.
+-- learned by views. It drew before any call for it was served, and wrote the rest when all calls of the answer were. All other clients are as
+-- they were.
 pub record Asked {L C : Type 0} (accepts : C → Accepts) (link_view : L → LinkView) (old new : World L C) (place : ℕ) (draw : Option Act) (call : ServiceCall) (took : Accepts → Sides LyingStore L C → ServiceAnswer → Type 0) : Type 0 where
   pub middle : State LyingStore L C
   pub answer : ServiceAnswer
@@ -38,6 +47,7 @@ pub record Asked {L C : Type 0} (accepts : C → Accepts) (link_view : L → Lin
   pub grows : Grows from to
   pub taken : took (accepts from.checker) (record { from = drawn; to = to; before = middle; after = new.state }) answer
   pub learned : OnlyLearned accepts lying_view link_view middle new.state
+  pub turns : TurnsAt place (served_count (link_view middle.link)) (old.turns ++ turns_drawn draw place (served_count (link_view old.state.link))) new.turns
   pub first : new.first ≡ old.first
 
 module _ {L C : Type 0} (accepts : C → Accepts) (link_view : L → LinkView) (old new : World L C) (place : ℕ) where

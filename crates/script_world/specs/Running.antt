@@ -25,7 +25,7 @@ pub record Running (L C : Type 0) : Type 0 where
   pub draws : ℕ
 
 abbrev pub world_of : {L C : Type 0} → Running L C → World L C
-world_of running = record { state = running.state; first = running.first; clients = running.clients; labels = means running.ledgers; draws = running.draws }
+world_of running = record { state = running.state; first = running.first; clients = running.clients; turns = running.turns; labels = means running.ledgers; draws = running.draws }
 
 -- its clients
 abbrev pub acts_of : {L C : Type 0} → Running L C → ClientActs C
@@ -33,7 +33,7 @@ acts_of running = record { first = running.first; names = running.names; clients
 
 -- a run with these clients and this coordinator, where nothing else matters
 abbrev pub seen : {L C : Type 0} → State LyingStore L C → ClientActs C → World L C
-seen state acts = record { state = state; first = acts.first; clients = acts.clients; labels = no_labels; draws = 0 }
+seen state acts = record { state = state; first = acts.first; clients = acts.clients; turns = acts.turns; labels = no_labels; draws = 0 }
 
 -- What stays so, whatever a script does: each client has its name, and each operation that was begun has its draw.
 pub record IsKept {C : Type 0} (acts : ClientActs C) (operations : Operations) : Type 0 where

@@ -1,12 +1,13 @@
 // What a client does that draws, asks the coordinator and takes its answer, one after the other. Each is over the clients and the coordinator
 // alone: what else there is of a run stands beside it.
-ghost use Rattle.std.specs.Prelude.{◌<◌, ◌^◌, length, Some, None, IfOk, OnOk};
+ghost use Rattle.std.specs.Prelude.{◌≡◌, ◌++◌, ◌∷◌, ◌<◌, ◌^◌, [], length, Some, None, IfOk, OnOk};
 ghost use Rattle.chain_block.specs.declared.entry.Entry.{Entry};
 ghost use Rattle.chain_block.specs.Entry.{IsWithinLimits, bare, nonce_of};
 ghost use Rattle.endorser_cell.specs.CellBank.{bank_view};
 ghost use Rattle.port.specs.Service.{Latest, At};
 ghost use Rattle.client_pass.specs.Act.{Draw};
 ghost use Rattle.client_acts.specs.ClientActs.{Each, IsOf, StaysOn};
+ghost use Rattle.client_acts.specs.Turns.{turn_of};
 ghost use Rattle.answer_lines.specs.Asking.{call_for};
 ghost use Rattle.answer_lines.specs.Draws.{DrewEntry, DrewRead, IsOpen};
 ghost use Rattle.answer_lines.specs.Taken.{TookAt, TookLatest, TookOwn};
@@ -22,15 +23,9 @@ use coordinator::Coordinator;
 use nim_base::{Digest, NoMemory, Nonce, Text};
 use port::Service;
 use roster_bank::{RosterBank, RunName};
+use script_operations::served_so_far;
 use seal::{Checker, Scheme, Signer};
 use std::alloc::Global;
-
-/// How many calls the endorsers were asked so far.
-pub(crate) fn calls<G: Scheme, K: RunName>(
-    coordinator: &Coordinator<LyingStore, RosterBank<'_, G, K>, G::Checker>,
-) -> usize {
-    coordinator.link().log().len()
-}
 
 /// The checker of each client accepts what those of the run do.
 fn see_checkers<C: Checker, K: RunName>(acts: &ClientActs<'_, C, K>)
@@ -51,6 +46,7 @@ pub(crate) fn draw_entry<C: Checker, K: RunName>(
     ensures drew { OnOk result (DrewOf acts.old acts.new client (Draw (nonce_of entry.now) (Some (bare entry.now)))) }
     ensures entry { IfOk result (λ draw. DrewEntry acts.new.clients client draw (bare entry.now)) }
     ensures open { IfOk result (λ draw. IsOpen acts.new.clients client draw) }
+    ensures turn { OnOk result (acts.new.turns ≡ acts.old.turns ++ turn_of client calls 1 ∷ []) }
     ensures stays { StaysOn acts.old acts.new }
 {
     clients_stay_on::<C>();
@@ -69,6 +65,7 @@ pub(crate) fn draw_read<C: Checker, K: RunName>(
     ensures drew { OnOk result (DrewOf acts.old acts.new client (Draw nonce.now None)) }
     ensures read { IfOk result (λ draw. DrewRead acts.new.clients client draw nonce.now) }
     ensures open { IfOk result (λ draw. IsOpen acts.new.clients client draw) }
+    ensures turn { OnOk result (acts.new.turns ≡ acts.old.turns ++ turn_of client calls 1 ∷ []) }
     ensures stays { StaysOn acts.old acts.new }
 {
     clients_stay_on::<C>();
@@ -93,9 +90,9 @@ pub(crate) fn ask_for_entry<G: Scheme, K: RunName>(
 {
     clients_stay_on::<G::Checker>();
     see_checkers(acts);
-    let draw = draw_entry(acts, client, calls(coordinator), entry)?;
+    let draw = draw_entry(acts, client, served_so_far(coordinator), entry)?;
     let answer = ask_own(alloc, coordinator, entry);
-    let before = calls(coordinator);
+    let before = served_so_far(coordinator);
     let line = give_own(
         alloc,
         acts,
@@ -127,9 +124,9 @@ pub(crate) fn ask_for_newest<G: Scheme, K: RunName>(
 {
     clients_stay_on::<G::Checker>();
     see_checkers(acts);
-    let draw = draw_read(acts, client, calls(coordinator), nonce)?;
+    let draw = draw_read(acts, client, served_so_far(coordinator), nonce)?;
     let answer = coordinator.latest(alloc, handle, nonce);
-    let before = calls(coordinator);
+    let before = served_so_far(coordinator);
     let line = give_latest(
         alloc,
         acts,
@@ -163,7 +160,7 @@ pub(crate) fn ask_for_row<G: Scheme, K: RunName>(
 {
     see_checkers(acts);
     let answer = coordinator.at(alloc, handle, height);
-    let before = calls(coordinator);
+    let before = served_so_far(coordinator);
     let line = give_at(
         alloc,
         acts,

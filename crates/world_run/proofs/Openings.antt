@@ -1,5 +1,5 @@
 -- What an operation is begun for, by the kind of what was asked.
-use Rattle.std.proofs.Common.{◌≡◌, ℕ, List, Result, OnOk, sym, ap, subst}
+use Rattle.std.proofs.Common.{◌≡◌, ℕ, List, ◌++◌, Result, OnOk, sym, ap, subst, ◌∙◌, append-nil}
 use Rattle.nim_base.specs.Text.{Content}
 use Rattle.fault_script.specs.Seen.{request_of}
 use Rattle.fault_script.specs.declared.act.Act.{Act}
@@ -11,7 +11,7 @@ use Rattle.script_world.specs.Carried.{Opened}
 use Rattle.script_world.specs.Labels.{handle_for}
 use Rattle.script_world.specs.Nonce.{nonce}
 use Rattle.script_world.specs.Running.{Running, world_of}
-use Rattle.script_runs.specs.Runs.{Began, Opens}
+use Rattle.script_runs.specs.Runs.{Began, Opens, turns_begun}
 use Rattle.world_run.proofs.RunLines.{on_ok}
 
 module _ {L C A E : Type 0} (old new : Running L C) (result : Result A E) (place : ℕ) (op : List ℕ) (act : Act) where
@@ -47,3 +47,9 @@ module _ {L C A E : Type 0} (old new : Running L C) (result : Result A E) (place
   pub began_at : (client label : Content) (height : ℕ) → act ≡ acts.At client label height → new ≡ record old { operations = new.operations } → OnOk result (Began (world_of old) (world_of new) place (request_of act))
   began_at client label height is rest =
       subst (λ (a : Act). OnOk result (Began (world_of old) (world_of new) place (request_of a))) (sym is) (on_ok result (ap world_of rest))
+
+  pub turns_at : (calls : ℕ) (client label : Content) (height : ℕ) → act ≡ acts.At client label height → new ≡ record old { operations = new.operations }
+      → OnOk result (new.turns ≡ old.turns ++ turns_begun place calls (request_of act))
+  turns_at calls client label height is rest =
+      subst (λ (a : Act). OnOk result (new.turns ≡ old.turns ++ turns_begun place calls (request_of a))) (sym is)
+      (on_ok result (ap (λ (r : Running L C). r.turns) rest ∙ sym (append-nil old.turns)))

@@ -1,16 +1,19 @@
 -- How the run of a script ends: with its record, or after some first lines.
-use Rattle.std.proofs.Common.{◌≡◌, ◌≢◌, inl, inr, ℕ, List, [], ◌∷◌, ◌++◌, map, true, refl, sym, ap₂, subst, ◌∙◌, append-nil}
+use Rattle.std.proofs.Common.{◌≡◌, ◌≢◌, inl, inr, ℕ, List, [], ◌∷◌, ◌++◌, map, true, refl, sym, ap, ap₂, subst, ◌∙◌, append-nil}
 use Rattle.fault_script.specs.Command.{Command}
-use Rattle.std.specs.Prelude.{AllPairs}
+use Rattle.std.specs.Prelude.{AllPairs, slice_index_or}
 use Rattle.fault_script.specs.Script.{is_plain}
 use Rattle.fault_script.specs.Within.{AllFit}
 use Rattle.statement.specs.declared.member.Member.{Member}
+use Rattle.statement.specs.Config.{ids as ids_of}
 use Rattle.view_ledger.specs.Receipts.{Accepts}
 use Rattle.view_ledger.specs.Extension.{AreGenuine}
 use Rattle.view_ledger.specs.Views.{ViewChain}
 use Rattle.endorser_cell.specs.CellBank.{AreServed, CellBank}
-use Rattle.client_pass.specs.Record.{IsRecord, Record}
+use Rattle.client_pass.specs.ClientList.{stamps_of}
+use Rattle.client_pass.specs.Record.{IsRecord, Record, call_stamps}
 use Rattle.roster_bank.specs.Roster.{IsRoster, lists_of}
+use Rattle.run_record.specs.Events.{is_client, is_endorser, places}
 use Rattle.run_record.specs.Stamping.{acts_of, calls_of}
 use Rattle.script_world.specs.Running.{Running}
 use Rattle.world_run.specs.Plain.{nothing, replies}
@@ -20,6 +23,7 @@ use Rattle.script_runs.specs.Belongs.{RunsBelong}
 use Rattle.world_run.specs.Replayed.{HaveLeftFor, Prints, PrintsFirst, PrintsFront, Replayed}
 use Rattle.script_runs.specs.Roster.{KeysAreApart, all_members, members_by}
 use Rattle.script_runs.specs.Runs.{AllCanRun, Runs}
+use Rattle.script_runs.specs.Stamps.{events_of}
 use Rattle.world_run.proofs.LinesSaid.{one_line_each}
 
 -- what fits can be run
@@ -106,9 +110,12 @@ module _ {S C : Type 0} (key : S → List ℕ) (left size : S → ℕ) (signs : 
     pub all_recorded : PlainLaws → RunsBelong key left size signs fit accepts key_of left_of checks → (last : Running (CellBank S C) C) (made : Record) (put : List (List ℕ) → Type 0) → RanAndPut key left size signs fit accepts key_of left_of checks commands first last put
         → IsRoster key accepts (all_members key_of) checks last.state.link → AreServed last.state.link
         → map calls_of made.cells ≡ map calls_of (lists_of last.state.link.cells) → map acts_of made.passes ≡ map (λ client. acts_of client.lines) last.clients
+        → (members : List Member) → members ≡ all_members key_of
+        → ((place : ℕ) → slice_index_or (map call_stamps made.cells) place [] ≡ places (is_endorser place) (events_of (ids_of members) last))
+        → ((place : ℕ) → slice_index_or (map stamps_of made.passes) place [] ≡ places (is_client place) (events_of (ids_of members) last))
         → made.roster ≡ all_members key_of → made.genesis ≡ members_by key_of (first_ids script)
         → (printed : List (List ℕ)) × Prints key left size signs fit accepts key_of left_of checks script made printed × put printed
-    all_recorded laws belong last made put ran bank served cells passes roster genesis =
+    all_recorded laws belong last made put ran bank served cells passes members are call_stamped act_stamped roster genesis =
         let did_all = subst (λ (lines : List Command). Runs key left size signs fit accepts key_of left_of checks lines first last ran.0) same ran.1 in
         let did : Replayed key left size signs fit accepts key_of left_of checks script made ran.0 = record {
           first = first;
@@ -121,6 +128,8 @@ module _ {S C : Type 0} (key : S → List ℕ) (left size : S → ℕ) (signs : 
           served = served;
           cells = cells;
           passes = passes;
+          call_stamps = λ place. call_stamped place ∙ ap (λ (all : List Member). places (is_endorser place) (events_of (ids_of all) last)) are;
+          act_stamps = λ place. act_stamped place ∙ ap (λ (all : List Member). places (is_client place) (events_of (ids_of all) last)) are;
           roster = roster;
           genesis = genesis;
         } in

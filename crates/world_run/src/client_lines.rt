@@ -1,14 +1,15 @@
 // What clients ask for, at once or as an operation that is begun.
-ghost use Rattle.std.specs.Prelude.{◌≡◌, ◌<◌, true, length, IfOk, OnOk};
+ghost use Rattle.std.specs.Prelude.{◌≡◌, ◌++◌, ◌<◌, true, length, IfOk, OnOk};
 ghost use Rattle.fault_script.specs.Command.{Plain};
 ghost use Rattle.fault_script.specs.Limits.{is_served};
 ghost use Rattle.fault_script.specs.Seen.{request_of};
 ghost use Rattle.fault_script.specs.Within.{IsRequestWithin};
 ghost use Rattle.endorser_cell.specs.CellBank.{bank_view};
+ghost use Rattle.roster_bank.specs.Counting.{served_count};
 ghost use Rattle.script_world.specs.Carried.{CameAs, KeepsNames};
 ghost use Rattle.script_world.specs.Going.{GoesOn};
 ghost use Rattle.script_world.specs.Running.{world_of};
-ghost use Rattle.script_runs.specs.Runs.{Does, Began, DidBegin, DidRequest, Opens, client_in, said_in};
+ghost use Rattle.script_runs.specs.Runs.{Does, Began, DidBegin, DidRequest, Opens, client_in, said_in, turns_begun};
 
 use crate::seals::Seals;
 use fault_script::Act;
@@ -107,6 +108,7 @@ fn begin<G: Scheme, N: RunName>(
     ensures began { OnOk result (Began (world_of world.old) (world_of world.new) client (request_of act.now)) }
     ensures opens { OnOk result (Opens world.old world.new client op.now (request_of act.now)) }
     ensures goes { OnOk result (GoesOn (world_of world.old) (world_of world.new)) }
+    ensures turns { OnOk result (world.new.turns ≡ world.old.turns ++ turns_begun client (served_count (bank_view G.Signer.key_of G.Signer.left_of G.Checker.accepts world.old.state.link)) (request_of act.now)) }
 {
     match act {
         Act::New { label, payload, .. } => {

@@ -1,15 +1,19 @@
 // A run from its beginning to its record.
-ghost use Rattle.std.specs.Prelude.{◌≡◌, ◌≢◌, ◌∷◌, [], ℕ, List, AllPairs, IfOk, IsErrOf, map};
+ghost use Rattle.std.specs.Prelude.{◌≡◌, ◌≢◌, ◌∷◌, [], ℕ, List, AllPairs, IfOk, IsErrOf, map, slice_index_or};
 ghost use Rattle.statement.specs.declared.member.Member.{Member as GenuineMember};
-ghost use Rattle.client_pass.specs.Record.{IsRecord};
+ghost use Rattle.statement.specs.Config.{ids};
+ghost use Rattle.client_pass.specs.ClientList.{stamps_of};
+ghost use Rattle.client_pass.specs.Record.{IsRecord, call_stamps};
 ghost use Rattle.least_collision.specs.Collision.{NoCollision};
 ghost use Rattle.nim_outside.specs.Causes.{Rose};
 ghost use Rattle.roster_bank.specs.Roster.{lists_of};
+ghost use Rattle.run_record.specs.Events.{is_client, is_endorser, places};
 ghost use Rattle.run_record.specs.Stamping.{acts_of, calls_of};
 ghost use Rattle.view_ledger.specs.Extension.{AreGenuine};
 ghost use Rattle.world_run.specs.Printing.{Wrote, WroteFront};
 ghost use Rattle.script_runs.specs.Begins.{Begins, first_ids};
 ghost use Rattle.world_run.specs.Replayed.{Prints, PrintsFirst};
+ghost use Rattle.script_runs.specs.Stamps.{events_of};
 ghost use Rattle.script_runs.specs.Roster.{KeysAreApart, all_members, members_by};
 ghost use Rattle.world_run.specs.SetUp.{set_up_texts};
 
@@ -39,6 +43,8 @@ fn recorded<G: Scheme, N: RunName>(
 ) -> Result<Record, NoMemory>
     ensures cells { IfOk result (λ made. map calls_of made.cells ≡ map calls_of (lists_of world.entry.state.link.cells)) }
     ensures passes { IfOk result (λ made. map acts_of made.passes ≡ map (λ client. acts_of client.lines) world.entry.clients) }
+    ensures call_stamps { IfOk result (λ made. (place : ℕ) → slice_index_or (map call_stamps made.cells) place [] ≡ places (is_endorser place) (events_of (ids N.members) world.entry)) }
+    ensures act_stamps { IfOk result (λ made. (place : ℕ) → slice_index_or (map stamps_of made.passes) place [] ≡ places (is_client place) (events_of (ids N.members) world.entry)) }
     ensures roster { IfOk result (λ made. made.roster ≡ roster.items) }
     ensures genesis { IfOk result (λ made. made.genesis ≡ genesis) }
     ensures record { IfOk result (λ made. roster.items ≡ N.members → world.entry.first ≡ record { roster = N.members; configs = genesis ∷ [] }

@@ -9,7 +9,7 @@ use Rattle.reply_lines.specs.Causes.{payload_of}
 use Rattle.reply_lines.specs.Lines.{ok_line}
 use Rattle.answer_lines.specs.Giving.{Gave}
 use Rattle.answer_lines.specs.Taken.{TookAt}
-use Rattle.answer_lines.proofs.Given.{found, gave_line, only_learned, same_checker}
+use Rattle.answer_lines.proofs.Given.{found, gave_line, no_turn, only_learned, same_checker, turned_at}
 use Rattle.answer_lines.proofs.Refused.{gave_refusal}
 use Rattle.answer_lines.proofs.giving.give_at.Goals as goal
 
@@ -50,3 +50,14 @@ pub returns-in_ok-accepted-in-Ok-clause-learned : goal.returns-in_ok-accepted-in
 returns-in_ok-accepted-in-Ok-clause-learned g c =
     only_learned g.C.Checker.accepts g.S.Store.view g.L.Link.view c.args.acts.now c.take_at-taken.new.self c.args.coordinator.now c.take_at-taken.new.coordinator
     c.take_at-taken.result c.args.client c.args.calls (view_of c.in-Ok.standing.receipt.statement) (At c.args.handle.now c.args.height c.in-Ok.standing) _ c.take_at-taken.ensures
+
+pub returns-in_ok-accepted-in-Ok-clause-turns : goal.returns-in_ok-accepted-in-Ok-clause-turns
+returns-in_ok-accepted-in-Ok-clause-turns g c =
+    turned_at g.C.Checker.accepts g.S.Store.view g.L.Link.view c.args.acts.now c.take_at-taken.new.self c.args.coordinator.now c.take_at-taken.new.coordinator
+    c.take_at-taken.result c.args.client c.args.calls (view_of c.in-Ok.standing.receipt.statement) (At c.args.handle.now c.args.height c.in-Ok.standing) _ c.take_at-taken.ensures
+
+pub returns-in_err-accepted-in-Ok-clause-turns : goal.returns-in_err-accepted-in-Ok-clause-turns
+returns-in_err-accepted-in-Ok-clause-turns g c = no_turn c.args.client c.args.calls c.args.acts.now.turns
+
+pub returns-in-Err-clause-turns : goal.returns-in-Err-clause-turns
+returns-in-Err-clause-turns g c = no_turn c.args.client c.args.calls c.args.acts.now.turns

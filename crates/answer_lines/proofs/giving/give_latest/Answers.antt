@@ -12,7 +12,7 @@ use Rattle.client_pass.specs.Act.{Latest}
 use Rattle.client_pass.specs.ClientList.{IsForRead}
 use Rattle.answer_lines.specs.Giving.{Gave, count_by}
 use Rattle.answer_lines.specs.Taken.{Took, TookLatest, latest_line}
-use Rattle.answer_lines.proofs.Given.{drew_read, gave_drawn, gave_latest_line, only_learned, same_checker}
+use Rattle.answer_lines.proofs.Given.{drew_read, gave_drawn, gave_latest_line, no_turn, only_learned, same_checker, turned_at}
 use Rattle.answer_lines.proofs.Refused.{gave_refusal}
 use Rattle.answer_lines.proofs.giving.give_latest.Goals as goal
 
@@ -65,3 +65,11 @@ pub returns-in-Ok-clause-learned : goal.returns-in-Ok-clause-learned
 returns-in-Ok-clause-learned g c =
     only_learned g.C.Checker.accepts g.S.Store.view g.L.Link.view c.args.acts.now c.take_latest-taken.new.self c.args.coordinator.now c.take_latest-taken.new.coordinator
     c.take_latest-taken.result c.args.client c.args.calls (view_of c.in-Ok.reply.receipt.statement) (Latest c.args.draw c.args.handle.now c.in-Ok.reply) _ c.take_latest-taken.ensures
+
+pub returns-in-Ok-clause-turns : goal.returns-in-Ok-clause-turns
+returns-in-Ok-clause-turns g c =
+    turned_at g.C.Checker.accepts g.S.Store.view g.L.Link.view c.args.acts.now c.take_latest-taken.new.self c.args.coordinator.now c.take_latest-taken.new.coordinator
+    c.take_latest-taken.result c.args.client c.args.calls (view_of c.in-Ok.reply.receipt.statement) (Latest c.args.draw c.args.handle.now c.in-Ok.reply) _ c.take_latest-taken.ensures
+
+pub returns-in-Err-clause-turns : goal.returns-in-Err-clause-turns
+returns-in-Err-clause-turns g c = no_turn c.args.client c.args.calls c.args.acts.now.turns

@@ -10,7 +10,7 @@ use Rattle.reply_lines.specs.Causes.{payload_of}
 use Rattle.reply_lines.specs.Lines.{ok_line}
 use Rattle.answer_lines.specs.Giving.{Gave}
 use Rattle.answer_lines.specs.Taken.{Took, TookOwn, taken_line}
-use Rattle.answer_lines.proofs.Given.{bare_height, bare_payload, drew_entry, gave_drawn, gave_line, only_learned, same_checker, within}
+use Rattle.answer_lines.proofs.Given.{bare_height, bare_payload, drew_entry, gave_drawn, gave_line, no_turn, only_learned, same_checker, turned_at, within}
 use Rattle.answer_lines.proofs.giving.give_own.Goals as goal
 
 pub returns-in_ok-accepted-in-Ok-clause-took : goal.returns-in_ok-accepted-in-Ok-clause-took
@@ -58,3 +58,11 @@ pub returns-in_ok-accepted-in-Ok-clause-learned : goal.returns-in_ok-accepted-in
 returns-in_ok-accepted-in-Ok-clause-learned g c =
     only_learned g.C.Checker.accepts g.S.Store.view g.L.Link.view c.args.acts.now c.take_own-taken.new.self c.args.coordinator.now c.take_own-taken.new.coordinator
     c.take_own-taken.result c.args.client c.args.calls (view_of c.in-Ok.standing.receipt.statement) (Append c.args.draw c.in-Ok.standing) _ c.take_own-taken.ensures
+
+pub returns-in_ok-accepted-in-Ok-clause-turns : goal.returns-in_ok-accepted-in-Ok-clause-turns
+returns-in_ok-accepted-in-Ok-clause-turns g c =
+    turned_at g.C.Checker.accepts g.S.Store.view g.L.Link.view c.args.acts.now c.take_own-taken.new.self c.args.coordinator.now c.take_own-taken.new.coordinator
+    c.take_own-taken.result c.args.client c.args.calls (view_of c.in-Ok.standing.receipt.statement) (Append c.args.draw c.in-Ok.standing) _ c.take_own-taken.ensures
+
+pub returns-in_err-accepted-in-Ok-clause-turns : goal.returns-in_err-accepted-in-Ok-clause-turns
+returns-in_err-accepted-in-Ok-clause-turns g c = no_turn c.args.client c.args.calls c.args.acts.now.turns

@@ -11,7 +11,7 @@ use Rattle.reply_lines.specs.Causes.{payload_of}
 use Rattle.reply_lines.specs.Lines.{conflict_line}
 use Rattle.answer_lines.specs.Giving.{Gave}
 use Rattle.answer_lines.specs.Taken.{TookOwn}
-use Rattle.answer_lines.proofs.Given.{bare_handle, bare_height, found, gave_line, only_learned, same_checker}
+use Rattle.answer_lines.proofs.Given.{bare_handle, bare_height, found, gave_line, no_turn, only_learned, same_checker, turned_at}
 use Rattle.answer_lines.proofs.Refused.{gave_refusal, is_conflict, printed_own}
 use Rattle.answer_lines.proofs.giving.give_own_refusal.Goals as goal
 
@@ -66,3 +66,14 @@ returns-in_ok-accepted-in-Some-clause-learned g c =
     let standing = c.in-Some.standing.now in
     only_learned g.C.Checker.accepts g.S.Store.view g.L.Link.view c.args.acts.now c.look-looked.new.self c.args.coordinator.now c.look-looked.new.coordinator
     c.look-looked.result c.args.client c.args.calls (view_of standing.receipt.statement) (Look c.handle-handle.result c.height-height.result standing) _ c.look-looked.ensures
+
+pub returns-in_ok-accepted-in-Some-clause-turns : goal.returns-in_ok-accepted-in-Some-clause-turns
+returns-in_ok-accepted-in-Some-clause-turns g c =
+    turned_at g.C.Checker.accepts g.S.Store.view g.L.Link.view c.args.acts.now c.look-looked.new.self c.args.coordinator.now c.look-looked.new.coordinator
+    c.look-looked.result c.args.client c.args.calls (view_of c.in-Some.standing.now.receipt.statement) (Look c.handle-handle.result c.height-height.result c.in-Some.standing.now) _ c.look-looked.ensures
+
+pub returns-in_err-accepted-in-Some-clause-turns : goal.returns-in_err-accepted-in-Some-clause-turns
+returns-in_err-accepted-in-Some-clause-turns g c = no_turn c.args.client c.args.calls c.args.acts.now.turns
+
+pub returns-in-None-clause-turns : goal.returns-in-None-clause-turns
+returns-in-None-clause-turns g c = no_turn c.args.client c.args.calls c.args.acts.now.turns

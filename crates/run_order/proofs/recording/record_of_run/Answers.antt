@@ -1,20 +1,23 @@
-use Rattle.std.proofs.Common.{◌≡◌, List, map, ap, ◌∙◌}
+use Rattle.std.proofs.Common.{◌≡◌, List, [], map, ap, ◌∙◌}
 use Rattle.std.specs.Vec.{vec_items}
 use Rattle.statement.specs.Config.{ids}
+use Rattle.endorser_cell.specs.BankLine.{served_by}
+use Rattle.roster_bank.specs.Places.{places_served}
 use Rattle.client_acts.specs.declared.turn.Turn.{Turn}
 use Rattle.run_record.specs.declared.actor.Actor.{Actor}
 use Rattle.run_record.specs.Events.{is_client, is_endorser, places}
 use Rattle.run_record.specs.Stamping.{acts_of}
-use Rattle.run_order.specs.Order.{order_of}
+use Rattle.run_order.specs.Order.{order_from, order_of}
+use Rattle.run_order.proofs.Orders.{events, of_served}
 use Rattle.run_order.proofs.Recorded.{are_events, same_acts, unstamped}
 use Rattle.run_order.proofs.recording.record_of_run.Goals as goal
 
 pub record_of-requires : goal.record_of-requires
 record_of-requires g c =
-    let order : c.deref.result.now ≡ order_of (ids g.K.RunName.members) c.args.bank.log c.args.clients.turns =
-    c.deref.ensures.value ∙ c.in_ok-order.ensures ∙ ap (λ (turns : List Turn). order_of (ids g.K.RunName.members) c.args.bank.log turns) c.turns.ensures.turns in
+    let order : c.deref.result.now ≡ order_from events (places_served (ids g.K.RunName.members) c.args.bank.log) 0 c.args.clients.turns =
+    c.deref.ensures.value ∙ c.in_ok-order.ensures ∙ ap (λ (turns : List Turn). order_from events (places_served (ids g.K.RunName.members) c.args.bank.log) 0 turns) c.turns.ensures.turns in
     record {
-      events = are_events (ids g.K.RunName.members) c.args.bank.log c.args.clients.turns c.deref.result.now (map vec_items c.in_ok-cells.cells.items) (map vec_items c.in_ok-passes.passes.items)
+      events = are_events (places_served (ids g.K.RunName.members) c.args.bank.log) c.args.clients.turns c.deref.result.now (map vec_items c.in_ok-cells.cells.items) (map vec_items c.in_ok-passes.passes.items)
           c.args.clients.clients order c.in_ok-cells.ensures.counted c.in_ok-passes.ensures.lines c.turns.ensures.counted;
     }
 
@@ -24,14 +27,16 @@ returns-clause-acts g c =
 
 pub returns-clause-call_stamps : goal.returns-clause-call_stamps
 returns-clause-call_stamps g c place =
-    let order : c.deref.result.now ≡ order_of (ids g.K.RunName.members) c.args.bank.log c.args.clients.turns =
-    c.deref.ensures.value ∙ c.in_ok-order.ensures ∙ ap (λ (turns : List Turn). order_of (ids g.K.RunName.members) c.args.bank.log turns) c.turns.ensures.turns in
+    let order : c.deref.result.now ≡ order_of (ids g.K.RunName.members) (served_by [] c.args.bank.log) c.args.clients.turns =
+    c.deref.ensures.value ∙ c.in_ok-order.ensures ∙ ap (λ (turns : List Turn). order_from events (places_served (ids g.K.RunName.members) c.args.bank.log) 0 turns) c.turns.ensures.turns
+    ∙ of_served (ids g.K.RunName.members) c.args.bank.log c.args.clients.turns c.places_are_of_served_calls.ensures.places c.in_ok-cells.ensures.roster.known in
     c.in_ok-made.ensures.call_stamps place ∙ ap (λ (order : List Actor). places (is_endorser place) order) order
 
 pub returns-clause-act_stamps : goal.returns-clause-act_stamps
 returns-clause-act_stamps g c place =
-    let order : c.deref.result.now ≡ order_of (ids g.K.RunName.members) c.args.bank.log c.args.clients.turns =
-    c.deref.ensures.value ∙ c.in_ok-order.ensures ∙ ap (λ (turns : List Turn). order_of (ids g.K.RunName.members) c.args.bank.log turns) c.turns.ensures.turns in
+    let order : c.deref.result.now ≡ order_of (ids g.K.RunName.members) (served_by [] c.args.bank.log) c.args.clients.turns =
+    c.deref.ensures.value ∙ c.in_ok-order.ensures ∙ ap (λ (turns : List Turn). order_from events (places_served (ids g.K.RunName.members) c.args.bank.log) 0 turns) c.turns.ensures.turns
+    ∙ of_served (ids g.K.RunName.members) c.args.bank.log c.args.clients.turns c.places_are_of_served_calls.ensures.places c.in_ok-cells.ensures.roster.known in
     c.in_ok-made.ensures.act_stamps place ∙ ap (λ (order : List Actor). places (is_client place) order) order
 
 pub returns-clause-record : goal.returns-clause-record

@@ -16,6 +16,7 @@ returns-clause-asked g c =
     (Draw (nonce_of entry) (Some (bare entry))) (call_for entry) (stood c.ask_own-answer.result)
     (λ checks sides answer. TookOwn checks sides c.args.label.now (bare entry) answer c.in_ok-line.line.bytes)
     c.see_checkers.ensures c.in_ok-draw.ensures.drew c.ask_own-answer.ensures c.in_ok-line.ensures.took c.in_ok-line.ensures.learned
+    c.served_so_far.result c.served_so_far-before.result c.served_so_far.ensures c.served_so_far-before.ensures c.in_ok-draw.ensures.turn c.in_ok-line.ensures.turns
 
 pub returns-clause-stays : goal.returns-clause-stays
 returns-clause-stays g c =

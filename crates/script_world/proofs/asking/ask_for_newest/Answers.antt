@@ -15,6 +15,7 @@ returns-clause-asked g c =
     (Draw nonce None) (Latest handle nonce) (replied c.latest-answer.result)
     (λ checks sides answer. TookLatest checks sides c.args.label.now handle nonce answer c.in_ok-line.line.bytes)
     c.see_checkers.ensures c.in_ok-draw.ensures.drew c.latest-answer.ensures.says c.in_ok-line.ensures.took c.in_ok-line.ensures.learned
+    c.served_so_far.result c.served_so_far-before.result c.served_so_far.ensures c.served_so_far-before.ensures c.in_ok-draw.ensures.turn c.in_ok-line.ensures.turns
 
 pub returns-clause-stays : goal.returns-clause-stays
 returns-clause-stays g c =

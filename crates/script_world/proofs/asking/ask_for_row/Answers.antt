@@ -12,3 +12,4 @@ returns-clause-asked g c =
     (At handle c.args.height) (stood c.at-answer.result)
     (λ checks sides answer. TookAt checks sides c.args.label.now handle c.args.height answer c.in_ok-line.line.bytes)
     c.see_checkers.ensures c.at-answer.ensures.says c.in_ok-line.ensures.took c.in_ok-line.ensures.learned
+    c.served_so_far-before.result c.served_so_far-before.ensures c.in_ok-line.ensures.turns

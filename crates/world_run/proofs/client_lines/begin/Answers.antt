@@ -1,6 +1,8 @@
 use Rattle.std.proofs.Common.{ap}
+use Rattle.endorser_cell.specs.CellBank.{bank_view}
+use Rattle.roster_bank.specs.Counting.{served_count}
 use Rattle.script_world.specs.Running.{world_of}
-use Rattle.world_run.proofs.Openings.{began_at, opens_append, opens_latest, opens_new}
+use Rattle.world_run.proofs.Openings.{began_at, opens_append, opens_latest, opens_new, turns_at}
 use Rattle.world_run.proofs.RunLines.{on_ok, same_goes}
 use Rattle.world_run.proofs.client_lines.begin.Goals as goal
 
@@ -21,6 +23,11 @@ returns-in-Latest-clause-opens g c =
 
 pub returns-in-At-clause-began : goal.returns-in-At-clause-began
 returns-in-At-clause-began g c = began_at c.args.world.now c.begin_at.new.self c.begin_at.result c.args.client c.args.op.now c.args.act.now c.in-At.client c.in-At.label c.in-At.height c.in-At.is c.begin_at.ensures.rest
+
+pub returns-in-At-clause-turns : goal.returns-in-At-clause-turns
+returns-in-At-clause-turns g c =
+    turns_at c.args.world.now c.begin_at.new.self c.begin_at.result c.args.client c.args.op.now c.args.act.now (served_count (bank_view g.G.Signer.Signer.key_of g.G.Signer.Signer.left_of g.G.Checker.Checker.accepts c.args.world.now.state.link))
+    c.in-At.client c.in-At.label c.in-At.height c.in-At.is c.begin_at.ensures.rest
 
 pub returns-in-At-clause-goes : goal.returns-in-At-clause-goes
 returns-in-At-clause-goes g c = on_ok c.begin_at.result (same_goes (world_of c.args.world.now) (world_of c.begin_at.new.self) (ap world_of c.begin_at.ensures.rest))

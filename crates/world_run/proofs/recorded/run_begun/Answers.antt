@@ -84,4 +84,4 @@ returns-clause-ran g c =
     (subst (λ (agreed : Accepts). RanAndPut g.M.Scheme.Signer.Signer.key_of g.M.Scheme.Signer.Signer.left_of g.M.Scheme.Signer.Signer.size_of g.M.Scheme.Signer.Signer.signs g.M.Scheme.Scheme.fits g.M.Scheme.Checker.Checker.accepts (g.M.Seals.key_of c.args.seals.now) (g.M.Seals.left_of c.args.seals.now) agreed (commands_of c.lines.result.now) c.args.begun.world c.run_lines.new.world (Wrote (g.K.Sink.written c.args.sink.now) (g.K.Sink.written c.run_lines.new.sink))) c.requires.accepts c.in_ok-run_lines.ensures.ran)
     (roster_by g.M.Scheme.Signer.Signer.key_of g.M.Scheme.Checker.Checker.accepts g.N.RunName.members (all_members (g.M.Seals.key_of c.args.seals.now)) g.N.RunName.accepts (g.M.Seals.accepts c.args.seals.now) c.run_lines.new.world.state.link c.requires.members c.requires.accepts c.calls_are_kept.ensures.roster)
     c.calls_are_kept.ensures.served
-    c.in_ok-recorded.ensures.cells c.in_ok-recorded.ensures.passes (c.in_ok-recorded.ensures.roster ∙ c.requires.roster) (c.in_ok-recorded.ensures.genesis ∙ c.requires.genesis)
+    c.in_ok-recorded.ensures.cells c.in_ok-recorded.ensures.passes g.N.RunName.members c.requires.members c.in_ok-recorded.ensures.call_stamps c.in_ok-recorded.ensures.act_stamps (c.in_ok-recorded.ensures.roster ∙ c.requires.roster) (c.in_ok-recorded.ensures.genesis ∙ c.requires.genesis)

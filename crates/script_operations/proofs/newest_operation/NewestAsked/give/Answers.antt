@@ -1,8 +1,10 @@
 use Rattle.std.proofs.Common.{inl, refl}
 use Rattle.nim_base.specs.declared.text.Text.{Text}
 use Rattle.port.specs.Service.{replied}
+use Rattle.endorser_cell.specs.CellBank.{bank_view}
+use Rattle.roster_bank.specs.Counting.{served_count}
 use Rattle.script_operations.specs.Task.{Newest}
-use Rattle.script_operations.proofs.Answering.{done_given, latest_given, opened}
+use Rattle.script_operations.proofs.Answering.{done_given, latest_given, no_turn, opened, turned_at}
 use Rattle.script_operations.proofs.Staying.{within}
 use Rattle.script_operations.proofs.newest_operation.NewestAsked.give.Goals as goal
 
@@ -25,3 +27,10 @@ returns-clause-given g c =
 
 pub returns-then-is_answered-clause-learned : goal.returns-then-is_answered-clause-learned
 returns-then-is_answered-clause-learned g c = inl refl
+
+pub returns-then-is_answered-clause-turns : goal.returns-then-is_answered-clause-turns
+returns-then-is_answered-clause-turns g c = no_turn c.args.self.now.client (served_count (bank_view g.G.Signer.Signer.key_of g.G.Signer.Signer.left_of g.G.Checker.Checker.accepts c.args.coordinator.now.link)) c.args.acts.now.turns
+
+pub returns-clause-turns : goal.returns-clause-turns
+returns-clause-turns g c =
+    turned_at c.args.self.now.client c.served_so_far-calls.result (served_count (bank_view g.G.Signer.Signer.key_of g.G.Signer.Signer.left_of g.G.Checker.Checker.accepts c.args.coordinator.now.link)) c.args.acts.now.turns c.give_latest.new.acts.turns c.served_so_far-calls.ensures c.give_latest.ensures.turns

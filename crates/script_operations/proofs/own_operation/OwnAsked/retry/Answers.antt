@@ -4,8 +4,9 @@ use Rattle.chain_block.specs.Entry.{bare}
 use Rattle.endorser_cell.specs.CellBank.{bank_view}
 use Rattle.port.specs.Service.{stood}
 use Rattle.answer_lines.specs.Asking.{call_for}
+use Rattle.roster_bank.specs.Counting.{served_count}
 use Rattle.script_operations.specs.Task.{Own}
-use Rattle.script_operations.proofs.Answering.{call_bare, done_asked, own_asked, opened}
+use Rattle.script_operations.proofs.Answering.{call_bare, done_asked, opened, own_asked, turned_at}
 use Rattle.script_operations.proofs.Staying.{within}
 use Rattle.script_operations.proofs.own_operation.OwnAsked.retry.Goals as goal
 
@@ -23,4 +24,4 @@ returns-then-is_answered-clause-asks g c =
 pub returns-clause-asks : goal.returns-clause-asks
 returns-clause-asks g c =
     own_asked (λ (text : Text). text.bytes) g.K.RunName.accepts c.args.name.now c.args.self.now.label.bytes c.args.acts.now c.give_own.new.acts c.ask_own-answer.new.coordinator c.give_own.new.coordinator c.give_own.result
-    g.G.Checker.Checker.accepts g.S.Store.view (bank_view g.G.Signer.Signer.key_of g.G.Signer.Signer.left_of g.G.Checker.Checker.accepts) c.args.coordinator.now c.give_own.ensures.learned c.args.self.now.client c.args.self.now.draw (bare c.args.self.now.entry) (call_for c.args.self.now.entry) (stood c.ask_own-answer.result) (opened c.args.acts.now.clients c.args.self.now.client c.args.self.now.draw c.is_answered.result c.is_answered.ensures c.if-is_answered.false) (call_bare c.args.self.now.entry) c.ask_own-answer.ensures c.bytes.result.now c.bytes.ensures c.give_own.ensures.took
+    g.G.Checker.Checker.accepts g.S.Store.view (bank_view g.G.Signer.Signer.key_of g.G.Signer.Signer.left_of g.G.Checker.Checker.accepts) c.args.coordinator.now c.give_own.ensures.learned c.args.self.now.client c.args.self.now.draw (bare c.args.self.now.entry) (call_for c.args.self.now.entry) (stood c.ask_own-answer.result) (turned_at c.args.self.now.client c.served_so_far-calls.result (served_count (bank_view g.G.Signer.Signer.key_of g.G.Signer.Signer.left_of g.G.Checker.Checker.accepts c.ask_own-answer.new.coordinator.link)) c.args.acts.now.turns c.give_own.new.acts.turns c.served_so_far-calls.ensures c.give_own.ensures.turns) (opened c.args.acts.now.clients c.args.self.now.client c.args.self.now.draw c.is_answered.result c.is_answered.ensures c.if-is_answered.false) (call_bare c.args.self.now.entry) c.ask_own-answer.ensures c.bytes.result.now c.bytes.ensures c.give_own.ensures.took

@@ -1,12 +1,13 @@
 use Rattle.std.proofs.Common.{ap, refl}
 use Rattle.chain_block.specs.Entry.{bare}
 use Rattle.coordinator.specs.Entries.{later_entry}
+use Rattle.endorser_cell.specs.CellBank.{bank_view}
 use Rattle.script_operations.specs.Operations.{tasks_of}
 use Rattle.script_operations.specs.Task.{Own}
 use Rattle.script_world.specs.Labels.{handle_for}
 use Rattle.script_world.specs.Nonce.{nonce}
 use Rattle.script_world.specs.Running.{world_of}
-use Rattle.script_world.proofs.Beginning.{bare_within, bare_later, began_append}
+use Rattle.script_world.proofs.Beginning.{bare_later, bare_within, began_append, turn_begun}
 use Rattle.script_world.proofs.Carrying.{opened_own}
 use Rattle.script_world.proofs.Goes.{goes, here}
 use Rattle.script_world.proofs.Kept.{kept_begun, kept_on, kept_with}
@@ -51,3 +52,9 @@ returns-clause-opened g c =
     (bare_later c.args.self.now inside.coordinator inside.acts inside.operations inside.labels inside.draws c.self.view_is c.in_ok-entry.entry c.handle_for-handle.result c.args.label.now c.args.height c.args.payload.now
     c.handle_for-handle.ensures c.in_ok-entry.ensures.entry)
     c.in_ok-draw.ensures.stays.names
+
+pub returns-clause-turns : goal.returns-clause-turns
+returns-clause-turns g c =
+    let inside = c.self.inside in
+    turn_begun (bank_view g.G.Signer.Signer.key_of g.G.Signer.Signer.left_of g.G.Checker.Checker.accepts) c.args.self.now inside.coordinator inside.acts c.draw_entry.new.acts inside.operations inside.labels inside.draws c.self.view_is
+    c.args.client c.served_so_far-calls.result c.served_so_far-calls.ensures c.in_ok-draw.ensures.turn

@@ -1,7 +1,8 @@
 use Rattle.std.proofs.Common.{ap, refl}
+use Rattle.endorser_cell.specs.CellBank.{bank_view}
 use Rattle.script_operations.specs.Operations.{tasks_of}
 use Rattle.script_operations.specs.Task.{Newest}
-use Rattle.script_world.proofs.Beginning.{began_latest}
+use Rattle.script_world.proofs.Beginning.{began_latest, turn_begun}
 use Rattle.script_world.proofs.Carrying.{opened_read}
 use Rattle.script_world.proofs.Goes.{goes, here}
 use Rattle.script_world.proofs.Kept.{kept_begun, kept_on, kept_with}
@@ -43,3 +44,9 @@ returns-clause-opened g c =
     opened_read c.args.self.now inside.coordinator inside.acts inside.operations inside.labels inside.draws c.self.view_is c.draw_read.new.acts c.begin_newest.new.self inside.labels c.in_ok-next.next
     c.args.op.now c.args.client c.in_ok-draw.draw c.handle_for-handle.result c.nonce-nonce.result c.args.label.now c.chain-chain.result.now
     c.in_ok-draw.ensures.read c.in_ok-begin_newest.ensures.begun c.chain-chain.ensures c.handle_for-handle.ensures c.nonce-nonce.ensures c.in_ok-draw.ensures.stays.names
+
+pub returns-clause-turns : goal.returns-clause-turns
+returns-clause-turns g c =
+    let inside = c.self.inside in
+    turn_begun (bank_view g.G.Signer.Signer.key_of g.G.Signer.Signer.left_of g.G.Checker.Checker.accepts) c.args.self.now inside.coordinator inside.acts c.draw_read.new.acts inside.operations inside.labels inside.draws c.self.view_is
+    c.args.client c.served_so_far-calls.result c.served_so_far-calls.ensures c.in_ok-draw.ensures.turn

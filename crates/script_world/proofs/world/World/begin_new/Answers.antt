@@ -1,10 +1,11 @@
 use Rattle.std.proofs.Common.{ap, refl}
 use Rattle.chain_block.specs.Entry.{bare}
 use Rattle.coordinator.specs.Entries.{first_entry}
+use Rattle.endorser_cell.specs.CellBank.{bank_view}
 use Rattle.script_operations.specs.Operations.{tasks_of}
 use Rattle.script_operations.specs.Task.{Own}
 use Rattle.script_world.specs.Nonce.{nonce}
-use Rattle.script_world.proofs.Beginning.{bare_within, bare_first, began_new}
+use Rattle.script_world.proofs.Beginning.{bare_first, bare_within, began_new, turn_begun}
 use Rattle.script_world.proofs.Carrying.{opened_own}
 use Rattle.script_world.proofs.Goes.{goes, here}
 use Rattle.script_world.proofs.Kept.{kept_begun, kept_on, kept_with}
@@ -52,3 +53,9 @@ returns-clause-opened g c =
     c.in_ok-draw.ensures.entry c.in_ok-begin_own.ensures.begun c.chain-chain.ensures
     (bare_first c.args.self.now inside.coordinator inside.acts inside.operations inside.labels inside.draws c.self.view_is c.in_ok-entry.entry c.args.payload.now c.in_ok-entry.ensures.entry)
     c.in_ok-draw.ensures.stays.names
+
+pub returns-clause-turns : goal.returns-clause-turns
+returns-clause-turns g c =
+    let inside = c.self.inside in
+    turn_begun (bank_view g.G.Signer.Signer.key_of g.G.Signer.Signer.left_of g.G.Checker.Checker.accepts) c.args.self.now inside.coordinator inside.acts c.draw_entry.new.acts inside.operations inside.labels inside.draws c.self.view_is
+    c.args.client c.served_so_far-calls.result c.served_so_far-calls.ensures c.in_ok-draw.ensures.turn
