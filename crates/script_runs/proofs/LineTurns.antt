@@ -21,7 +21,9 @@ use Rattle.coordinator.specs.Views.{ViewsServed}
 use Rattle.answer_lines.specs.Giving.{OnlyLearned}
 use Rattle.answer_lines.specs.Taken.{Sides}
 use Rattle.client_acts.specs.declared.turn.Turn.{Turn}
-use Rattle.client_acts.specs.Turns.{TurnsAt, turn_of}
+use Rattle.client_acts.specs.ClientActs.{line_count}
+use Rattle.client_acts.specs.Turns.{TurnsAt, lines_by, turn_of}
+use Rattle.client_pass.specs.ClientPass.{ClientPass}
 use Rattle.roster_bank.specs.Counting.{served_count}
 use Rattle.script_operations.specs.Giving.{Asks, NoneReads}
 use Rattle.script_operations.specs.Operations.{NoneIsNamed, NoneIsOpen}
@@ -29,7 +31,7 @@ use Rattle.script_operations.specs.Task.{client_of}
 use Rattle.script_world.specs.Carried.{CameAs, Finished, NothingOffered, Offered, ReplyOffered, Retried}
 use Rattle.script_world.specs.Lines.{Asked, ClientCame}
 use Rattle.script_world.specs.Raw.{OnlyLink, OnlyStore}
-use Rattle.script_world.specs.Running.{Running, acts_of, world_of}
+use Rattle.script_world.specs.Running.{AreTurnsCounted, Running, acts_of, world_of}
 use Rattle.script_runs.specs.OwnCalls.{served_in}
 use Rattle.script_runs.specs.Runs.{DidLine, Does, Forges, Opens, client_in, turns_begun}
 use Rattle.script_runs.specs.Stamps.{Draws, DrawsFor, IsAsker, MayWrite}
@@ -266,3 +268,40 @@ module _ {S C : Type 0} (key : S → List ℕ) (left : S → ℕ) (accepts : C �
     line_wrote (Offer op ids) did = offer_line op ids did.told
     line_wrote (Forge op count ids) did = forge_line op count ids did.told
     line_wrote End did = same_run old new before now End refl did.0
+
+    -- the turns are counted then, too
+    line_same : new.turns ≡ old.turns → new.clients ≡ old.clients → AreTurnsCounted old → AreTurnsCounted new
+    line_same turns clients counted place =
+        ap (lines_by place) turns ∙ counted place ∙ sym (ap (λ (all : List (ClientPass C)). line_count all place) clients)
+
+    run_same : new ≡ old → AreTurnsCounted old → AreTurnsCounted new
+    run_same same counted = subst AreTurnsCounted (sym same) counted
+
+    link_same : OnlyLink old new → AreTurnsCounted old → AreTurnsCounted new
+    link_same rest = line_same (ap (λ (r : Run). r.turns) rest) (ap (λ (r : Run). r.clients) rest)
+
+    store_same : OnlyStore old new → AreTurnsCounted old → AreTurnsCounted new
+    store_same rest = line_same (ap (λ (r : Run). r.turns) rest) (ap (λ (r : Run). r.clients) rest)
+
+    pub line_counted : (command : Command) → DidLine key left size signs fit accepts key_of left_of checks old new said command → AreTurnsCounted old → AreTurnsCounted new
+    line_counted (Genesis ids) did was = line_same (ap (λ (r : Run). r.turns) did.others) (ap (λ (r : Run). r.clients) did.others) was
+    line_counted (Plain request) did was = did.counted
+    line_counted Restart did was = line_same did.0.turns did.0.restarted.clients was
+    line_counted (Begin op request) did was = did.counted
+    line_counted (Step op n) did was = line_same (ap (λ (r : Run). r.turns) did.rest) (ap (λ (r : Run). r.clients) did.rest) was
+    line_counted (Finish op) did was = did.rest.counted
+    line_counted (Retry op) did was = did.rest.counted
+    line_counted (LoseRequest id n) did was = link_same did.rest was
+    line_counted (LoseReply id n) did was = link_same did.rest was
+    line_counted (StoreFail n) did was = store_same did.0.rest was
+    line_counted (StoreHide label height) did was = store_same did.0.0 was
+    line_counted (StoreStale label height from) did was = store_same did.0.0 was
+    line_counted (StoreFork label height) did was = store_same did.0.0 was
+    line_counted StoreHonest did was = store_same did.0.rest was
+    line_counted (RawAppend id label height payload number) did was = link_same did.rest was
+    line_counted (RawLatest id label number) did was = link_same did.rest was
+    line_counted (RawShow id label) did was = link_same did.rest was
+    line_counted (RawFinalize id ids) did was = absurd did
+    line_counted (Offer op ids) did was = did.rest.counted
+    line_counted (Forge op count ids) did was = did.rest.counted
+    line_counted End did was = run_same did.0 was

@@ -1,12 +1,14 @@
 -- The order of a run's events, where calls and turns come to it.
-use Rattle.std.proofs.Common.{◌≡◌, ℕ, zero, suc, ◌+◌, ◌-◌, ◌≤◌, List, [], ◌∷◌, ◌++◌, take, drop, length, Option, Some, None, refl, sym, ap, ◌∙◌, arith, append_assoc, append-nil, length-append}
+use Rattle.std.proofs.Common.{◌≡◌, ℕ, zero, suc, ◌+◌, ◌-◌, ◌≤◌, Bool, true, false, eqb, cond, List, [], ◌∷◌, ◌++◌, take, drop, length, Option, Some, None, refl, sym, ap, ◌∙◌, arith, append_assoc, append-nil, length-append}
 use Rattle.std.specs.Prelude.{max}
 use Rattle.std.specs.List.{AllByRecursion}
 use Rattle.std.proofs.lemmas.List.{length-drop}
+use Rattle.std.proofs.lemmas.List.Sums.{sum_by-append, sum_by-cons}
 use Rattle.client_acts.specs.declared.turn.Turn.{Turn}
-use Rattle.client_acts.specs.Turns.{turn_of}
+use Rattle.client_acts.specs.Turns.{lines_by, turn_of}
 use Rattle.run_record.specs.declared.actor.Actor.{Actor}
 use Rattle.run_record.specs.declared.actor.Actor.TheVariants.{Client}
+use Rattle.run_record.specs.Events.{count_client, is_client}
 use Rattle.run_order.specs.Order.{lines, order_from}
 use Rattle.script_runs.specs.Stamps.{AreLinesOf}
 
@@ -191,3 +193,38 @@ module _ (P : ℕ → Type 0) where
   pub of_turns : (turns : List Turn) → AllByRecursion (λ (turn : Turn). P turn.client) turns → AreLinesOf P (wrote turns)
   of_turns [] may = tt
   of_turns (turn ∷ turns) may = of_client turn.client turn.lines (wrote turns) may.0 (of_turns turns may.1)
+
+-- ---- how many events a client has
+
+count_both : (place : ℕ) (one other : List Actor) → count_client place (one ++ other) ≡ count_client place one + count_client place other
+count_both place one other = sum_by-append (λ (event : Actor). cond (is_client place event) 1 0) one other
+
+pub count_first : (place : ℕ) (event : Actor) (events : List Actor) → count_client place (event ∷ events) ≡ cond (is_client place event) 1 0 + count_client place events
+count_first place event events = sum_by-cons (λ (event : Actor). cond (is_client place event) 1 0) event events
+
+one_more : (b : Bool) (n : ℕ) → cond b 1 0 + cond b n 0 ≡ cond b (suc n) 0
+one_more true n = omega arith
+one_more false n = refl
+
+same_both : (b : Bool) (n : ℕ) → cond b n n ≡ n
+same_both true n = refl
+same_both false n = refl
+
+count_lines : (place client n : ℕ) → count_client place (lines client n) ≡ cond (eqb client place) n 0
+count_lines place client zero = sym (same_both (eqb client place) 0)
+count_lines place client (suc n) =
+    count_first place (Client client) (lines client n) ∙ ap (λ (k : ℕ). cond (eqb client place) 1 0 + k) (count_lines place client n) ∙ one_more (eqb client place) n
+
+-- as many as its turns have lines, where calls are no client's
+pub count_order : {A : Type 0} (events : List A → List Actor) → ((place : ℕ) (served : List A) → count_client place (events served) ≡ 0) → (all : List A) (next : ℕ) (turns : List Turn) (place : ℕ)
+    → count_client place (order_from events all next turns) ≡ lines_by place turns
+count_order events none all next [] place = none place (drop next all)
+count_order events none all next (turn ∷ turns) place =
+    let some = take (turn.calls - next) (drop next all) in
+    let rest = order_from events all (max next turn.calls) turns in
+    let one = count_both place (events some) (lines turn.client turn.lines ++ rest) in
+    let other = count_both place (lines turn.client turn.lines) rest in
+    let zero_calls = none place some in
+    let own = count_lines place turn.client turn.lines in
+    let last = count_order events none all (max next turn.calls) turns place in
+    omega (arith, one, other, zero_calls, own, last)

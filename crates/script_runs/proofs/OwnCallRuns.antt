@@ -26,7 +26,7 @@ use Rattle.script_operations.specs.Task.{Task}
 use Rattle.script_world.specs.Carried.{NothingOffered, Offered, ReplyOffered}
 use Rattle.script_world.specs.Labels.{Labels, handle_for}
 use Rattle.script_world.specs.Nonce.{nonce}
-use Rattle.script_world.specs.Running.{Running, world_of}
+use Rattle.script_world.specs.Running.{AreTurnsCounted, Running, world_of}
 use Rattle.script_world.specs.World.{World}
 use Rattle.script_runs.specs.Begins.{Begins}
 use Rattle.script_runs.specs.CallRules.{AllAlike, AppendedOnce, AreAlike, EntriesWereDrawn, IsForked, IsSameAppend, OthersAreOwn, forks_by, outside}
@@ -38,9 +38,9 @@ use Rattle.script_runs.specs.Runs.{AllCanRun, Began, CanRun, DidBegin, DidForge,
 use Rattle.script_runs.proofs.AskingLines.{came_facts, came_state, finish_did, genesis_did, learned_did, plain_did, retry_did, step_did}
 use Rattle.script_runs.proofs.CoordinatorCalls.{IsOwnTask, OwnLaws}
 use Rattle.script_runs.proofs.DrawnEntries.{HandlesFit, first_stored, grow_on, handle_size, handles_with, later_stored}
-use Rattle.script_runs.proofs.InOrder.{in_order, upto_now}
+use Rattle.script_runs.proofs.InOrder.{in_order, none_counted, upto_now}
 use Rattle.script_runs.proofs.KeptCalls.{all_append, all_lift}
-use Rattle.script_runs.proofs.LineTurns.{line_wrote}
+use Rattle.script_runs.proofs.LineTurns.{line_counted, line_wrote}
 use Rattle.script_runs.proofs.Ordered.{AllUpto}
 use Rattle.script_runs.proofs.LinkCalls.{AllOf}
 use Rattle.script_runs.proofs.OpenCalls.{AllGo, IsGoing, going_fresh}
@@ -253,13 +253,14 @@ module _ {S C : Type 0} (key : S → List ℕ) (left size : S → ℕ) (signs : 
       ((d.more, d.served, d.own), own_run (forks_by old command forked) (outside (is_raw command) d.more earlier) commands middle new rest can d.invariant runs)
 
   ordered_run : (forked : List Key) (earlier : List ServedCall) (script : List Command) (old new : Run) (printed : List (List ℕ)) → AllCanRun script → Invariant key left accepts checks forked earlier old
-      → AllUpto (length (served_in old)) old.turns → (runs : RunsSo script old new printed) → AllInOrder key left size signs fit accepts key_of left_of checks script old new printed runs
-  ordered_run forked earlier [] old new printed can invariant upto runs = tt
-  ordered_run forked earlier (command ∷ commands) old new printed (first, can) invariant upto (middle, said, rest, did, runs, split) =
+      → AllUpto (length (served_in old)) old.turns → AreTurnsCounted old → (runs : RunsSo script old new printed) → AllInOrder key left size signs fit accepts key_of left_of checks script old new printed runs
+  ordered_run forked earlier [] old new printed can invariant upto was runs = tt
+  ordered_run forked earlier (command ∷ commands) old new printed (first, can) invariant upto was (middle, said, rest, did, runs, split) =
       let d = line_did forked earlier old middle said invariant command first did in
-      let line = line_wrote key left accepts checks size signs fit key_of left_of old middle said invariant.facts.seen.fresh d.invariant.facts.seen.fresh command did in (
-        in_order command old middle d.more d.served line upto (ids_of (all_members key_of)),
-        ordered_run (forks_by old command forked) (outside (is_raw command) d.more earlier) commands middle new rest can d.invariant (upto_now command old middle d.more d.served line upto) runs,
+      let line = line_wrote key left accepts checks size signs fit key_of left_of old middle said invariant.facts.seen.fresh d.invariant.facts.seen.fresh command did in
+      let counted = line_counted key left accepts checks size signs fit key_of left_of old middle said invariant.facts.seen.fresh d.invariant.facts.seen.fresh command did was in (
+        in_order command old middle d.more d.served line upto counted (ids_of (all_members key_of)),
+        ordered_run (forks_by old command forked) (outside (is_raw command) d.more earlier) commands middle new rest can d.invariant (upto_now command old middle d.more d.served line upto counted) counted runs,
       )
 
   module _ (script : List Command) (ids : List ℕ) (first last : Run) (printed : List (List ℕ)) (can : AllCanRun script) (begins : Begins key left accepts key_of left_of checks ids first)
@@ -275,4 +276,5 @@ module _ {S C : Type 0} (key : S → List ℕ) (left size : S → ℕ) (signs : 
 
     pub all_ordered : AllInOrder key left size signs fit accepts key_of left_of checks script first last printed runs
     all_ordered =
-        ordered_run [] [] script first last printed can (begins_so ids first begins) (subst (AllUpto (length (served_in first))) (sym begins.turns) tt) runs
+        ordered_run [] [] script first last printed can (begins_so ids first begins) (subst (AllUpto (length (served_in first))) (sym begins.turns) tt)
+        (none_counted first begins.unbegun.clients begins.turns) runs

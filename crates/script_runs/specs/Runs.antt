@@ -40,7 +40,7 @@ use Rattle.script_world.specs.Labels.{handle_for}
 use Rattle.script_world.specs.Lines.{Restarted, MadeLedger, Appended, ReadNewest, ReadHeight}
 use Rattle.script_world.specs.Nonce.{nonce}
 use Rattle.script_world.specs.Raw.{AnsweredRaw, AppendedRaw, OnlyLink, OnlyStore}
-use Rattle.script_world.specs.Running.{Running, world_of}
+use Rattle.script_world.specs.Running.{AreTurnsCounted, Running, world_of}
 use Rattle.script_world.specs.Served.{HasLawfulList}
 use Rattle.script_world.specs.World.{World}
 
@@ -147,6 +147,7 @@ module _ {L C : Type 0} (old new : Running L C) where
   -- Besides the coordinator, its clients and the operations nothing changed, and no client came.
   pub record GoesWithin : Type 0 where
     pub goes : GoesOn (world_of old) (world_of new)
+    pub counted : AreTurnsCounted new
     pub names : new.names ≡ old.names
     pub ledgers : new.ledgers ≡ old.ledgers
     pub draws : new.draws ≡ old.draws
@@ -169,6 +170,7 @@ module _ {S C : Type 0} (key : S → List ℕ) (left size : S → ℕ) (signs : 
       pub line : List ℕ
       pub does : Does accepts (bank_view key left accepts) (world_of asking) (world_of new) place request line
       pub keeps : KeepsNames asking new
+      pub counted : AreTurnsCounted new
       pub one : said ≡ line ∷ []
 
     -- the client of the line was there or came, and an operation was begun under this name; nothing was said
@@ -178,6 +180,7 @@ module _ {S C : Type 0} (key : S → List ℕ) (left size : S → ℕ) (signs : 
       pub came : CameAs accepts checks old asking (client_in request) place
       pub began : Began (world_of asking) (world_of new) place request
       pub opens : Opens asking new place op request
+      pub counted : AreTurnsCounted new
       pub turns : new.turns ≡ asking.turns ++ turns_begun place (served_count (bank_view key left accepts asking.state.link)) request
       pub goes : GoesOn (world_of asking) (world_of new)
       pub none : said ≡ []

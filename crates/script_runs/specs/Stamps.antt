@@ -9,7 +9,9 @@ use Rattle.view_ledger.specs.Receipts.{Accepts}
 use Rattle.endorser_cell.specs.CellBank.{CellBank}
 use Rattle.run_record.specs.declared.actor.Actor.{Actor}
 use Rattle.run_record.specs.declared.actor.Actor.TheVariants.{Client}
+use Rattle.run_record.specs.Events.{count_client}
 use Rattle.run_order.specs.Order.{calls, order_of}
+use Rattle.client_acts.specs.ClientActs.{line_count}
 use Rattle.script_operations.specs.Operations.{Begun, IsNamed, Operations}
 use Rattle.script_operations.specs.Task.{client_of}
 use Rattle.script_world.specs.Running.{Running}
@@ -20,6 +22,10 @@ use Rattle.script_runs.specs.Runs.{Runs, client_in}
 -- all events of a run so far, by the places of its endorsers in a roster of these ids and of its clients
 abbrev pub events_of : {S C : Type 0} → List ℕ → Running (CellBank S C) C → List Actor
 events_of roster run = order_of roster (served_in run) run.turns
+
+-- each client has as many lines as there are events of it, so that each of its lines is one of them, in their order
+abbrev pub AreNoted : {S C : Type 0} → List ℕ → Running (CellBank S C) C → Type 0
+AreNoted roster run = (place : ℕ) → count_client place (events_of roster run) ≡ line_count run.clients place
 
 -- ---- whose lines a line of the script writes
 
@@ -65,7 +71,8 @@ AreLinesOf P events = AllByRecursion (λ (event : Actor). (place : ℕ) × (even
 -- ---- the rule
 
 -- All that a line of the script adds comes after the events before it: a draw first, then all calls that were served, and then what its
--- client wrote. So each line has one run of consecutive stamps, and whoever checks a reply does so at a higher stamp than those of the calls.
+-- client wrote; and then each client has just the lines whose events there are. So each line has one run of consecutive stamps, and whoever
+-- checks a reply does so at a higher stamp than those of the calls.
 pub record InOrder {S C : Type 0} (roster : List ℕ) (command : Command) (old new : Running (CellBank S C) C) : Type 0 where
   pub drawn : List Actor
   pub more : List Served
@@ -74,6 +81,7 @@ pub record InOrder {S C : Type 0} (roster : List ℕ) (command : Command) (old n
   pub served : served_in new ≡ more ++ served_in old
   pub writes : AreLinesOf (MayWrite old new command) written
   pub events : events_of roster new ≡ events_of roster old ++ (drawn ++ (calls roster (reverse more) ++ written))
+  pub noted : AreNoted roster new
 
 module _ {S C : Type 0} (key : S → List ℕ) (left size : S → ℕ) (signs : S → List ℕ → List ℕ → S → Type 0) (fit : S → C → Type 0) (accepts : C → Accepts) (key_of : ℕ → List ℕ) (left_of : ℕ → ℕ) (checks : Accepts) where
   abbrev pub Ran : List Command → Running (CellBank S C) C → Running (CellBank S C) C → List (List ℕ) → Type 0

@@ -4,7 +4,8 @@ use Rattle.blob_store.specs.declared.lying_store.LyingStore.{LyingStore}
 use Rattle.view_ledger.specs.Views.{ViewChain}
 use Rattle.client_pass.specs.ClientPass.{ClientPass}
 use Rattle.coordinator.specs.State.{State}
-use Rattle.client_acts.specs.ClientActs.{ClientActs}
+use Rattle.client_acts.specs.ClientActs.{ClientActs, line_count}
+use Rattle.client_acts.specs.Turns.{lines_by}
 use Rattle.client_acts.specs.declared.turn.Turn.{Turn}
 use Rattle.name_map.specs.NameMap.{means}
 use Rattle.script_operations.specs.Operations.{Operations, tasks_of}
@@ -26,6 +27,10 @@ pub record Running (L C : Type 0) : Type 0 where
 
 abbrev pub world_of : {L C : Type 0} → Running L C → World L C
 world_of running = record { state = running.state; first = running.first; clients = running.clients; turns = running.turns; labels = means running.ledgers; draws = running.draws }
+
+-- its turns have as many lines of each client as the client wrote
+abbrev pub AreTurnsCounted : {L C : Type 0} → Running L C → Type 0
+AreTurnsCounted running = (place : ℕ) → lines_by place running.turns ≡ line_count running.clients place
 
 -- its clients
 abbrev pub acts_of : {L C : Type 0} → Running L C → ClientActs C

@@ -1,7 +1,8 @@
-// What is known of the lists of calls that a run's endorsers keep.
+// What is known of the lists of calls that a run's endorsers keep, and of the turns of its clients.
 ghost use Rattle.std.specs.List.{AllByRecursion};
 ghost use Rattle.endorser_cell.specs.CellBank.{AreServed};
 ghost use Rattle.roster_bank.specs.Roster.{IsRoster};
+ghost use Rattle.script_world.specs.Running.{AreTurnsCounted};
 ghost use Rattle.script_world.specs.Served.{HasLawfulList};
 
 use crate::world::World;
@@ -23,6 +24,13 @@ impl<'w, G: Scheme, K: RunName> World<'w, G, K> {
         ensures roster { IsRoster G.Signer.key_of G.Checker.accepts K.members K.accepts self.now.state.link }
     {
         let _ = self.coordinator.link().log();
+    }
+
+    /// The turns of the clients have all lines that they wrote, and no more. It does nothing.
+    pub fn turns_are_counted(&self)
+        ensures { AreTurnsCounted self.now }
+    {
+        let _ = self.acts.turns();
     }
 
     /// The lines of each of these endorsers are a lawful call list. It does nothing.

@@ -18,7 +18,7 @@ use Rattle.script_operations.specs.Giving.{NoneReads}
 use Rattle.script_world.specs.Labels.{handle_for}
 use Rattle.script_world.specs.Nonce.{nonce}
 use Rattle.script_world.specs.Raw.{AnsweredRaw, AppendedRaw, OnlyLink}
-use Rattle.script_world.specs.Running.{Running, world_of}
+use Rattle.script_world.specs.Running.{AreTurnsCounted, Running, world_of}
 use Rattle.script_world.specs.World.{World}
 use Rattle.script_runs.specs.Runs.{Does, AllCanRun, DidForge, DidLine, DidRaw, Forges, Runs, SaysOr, said_in}
 use Rattle.fault_script.specs.Seen.{command_of, commands_of}
@@ -132,7 +132,7 @@ module _ {S C : Type 0} (key : S → List ℕ) (left size : S → ℕ) (signs : 
   asked_raw answered absent there rest served fresh (Ok None) is none = absurd (there none)
   asked_raw answered absent there rest served fresh (Err fault) is none = tt
 
-  module _ (goes : GoesOn (world_of old) (world_of new)) (names : new.names ≡ old.names) (ledgers : new.ledgers ≡ old.ledgers) (draws : new.draws ≡ old.draws) (op : List ℕ) where
+  module _ (goes : GoesOn (world_of old) (world_of new)) (counted : AreTurnsCounted new) (names : new.names ≡ old.names) (ledgers : new.ledgers ≡ old.ledgers) (draws : new.draws ≡ old.draws) (op : List ℕ) where
     -- the client of a read was given what new signers made
     pub forged : {E M : Type 0} (key_of : ℕ → List ℕ) (left_of : ℕ → ℕ) (id_of : M → ℕ) (signer_of : M → S) (members : List M) (count : ℕ) (ids : List ℕ) → map id_of members ≡ ids
         → AllByRecursion (λ member. (key (signer_of member) ≡ key_of (id_of member)) × (left (signer_of member) ≡ left_of (id_of member))) members
@@ -140,7 +140,7 @@ module _ {S C : Type 0} (key : S → List ℕ) (left size : S → ℕ) (signs : 
         → IfOk result (λ said. MatchOption said (NoneReads old.operations op × (new ≡ old)) (λ line. Forged key left accepts checks old new op signs count (map (λ member. (id_of member, signer_of member)) members) line.bytes))
         → IfOk result (λ said. DidForge key left size signs fit accepts key_of left_of checks old new (said_in said) op count ids)
     forged key_of left_of id_of signer_of members count ids by keys (Ok said) is = record {
-      rest = record { goes = goes; names = names; ledgers = ledgers; draws = draws };
+      rest = record { goes = goes; counted = counted; names = names; ledgers = ledgers; draws = draws };
       told =
           says_more (NoneReads old.operations op × (new ≡ old)) (Forged key left accepts checks old new op signs count (map (λ member. (id_of member, signer_of member)) members))
           (Forges key left size signs fit accepts key_of left_of checks old new (said_in said) op count ids)

@@ -92,7 +92,9 @@ pub(crate) fn run_act<M: Seals, N: RunName>(
     ensures { IfOk result (λ said. DidRequest M.Scheme.Signer.key_of M.Scheme.Signer.left_of M.Scheme.Signer.size_of M.Scheme.Signer.signs M.Scheme.fits M.Scheme.Checker.accepts N.accepts world.old world.new (said_in said) (request_of act.now)) }
 {
     let client = client_of(alloc, seals, world, act)?;
-    Ok(Some(ask(world, client, act)?))
+    let line = ask(world, client, act)?;
+    world.turns_are_counted();
+    Ok(Some(line))
 }
 
 /// An operation for what a client asks for is begun.
@@ -141,5 +143,6 @@ pub(crate) fn run_begin<M: Seals, N: RunName>(
 {
     let client = client_of(alloc, seals, world, act)?;
     begin(world, op, client, act)?;
+    world.turns_are_counted();
     Ok(None)
 }

@@ -30,7 +30,9 @@ pub(crate) fn finish<G: Scheme, N: RunName>(
 ) -> Result<Option<Text>, NoMemory>
     ensures { IfOk result (λ said. DidFinish G.Signer.key_of G.Signer.left_of G.Signer.size_of G.Signer.signs G.fits G.Checker.accepts N.accepts world.old world.new (said_in said) op.now) }
 {
-    world.finish(op)
+    let said = world.finish(op);
+    world.turns_are_counted();
+    said
 }
 
 /// `retry OP`.
@@ -40,7 +42,9 @@ pub(crate) fn retry<G: Scheme, N: RunName>(
 ) -> Result<Option<Text>, NoMemory>
     ensures { IfOk result (λ said. DidRetry G.Signer.key_of G.Signer.left_of G.Signer.size_of G.Signer.signs G.fits G.Checker.accepts N.accepts world.old world.new (said_in said) op.now) }
 {
-    world.retry(op)
+    let said = world.retry(op);
+    world.turns_are_counted();
+    said
 }
 
 /// `offer OP IDS`.
@@ -53,7 +57,9 @@ pub(crate) fn offer<G: Scheme, N: RunName>(
 {
     world.calls_are_kept();
     world.lists_are_lawful(ids);
-    world.offer(op, ids)
+    let said = world.offer(op, ids);
+    world.turns_are_counted();
+    said
 }
 
 /// New signers of these ids.
@@ -87,5 +93,7 @@ pub(crate) fn forge<M: Seals, N: RunName>(
     ensures { IfOk result (λ said. DidForge M.Scheme.Signer.key_of M.Scheme.Signer.left_of M.Scheme.Signer.size_of M.Scheme.Signer.signs M.Scheme.fits M.Scheme.Checker.accepts (M.key_of seals.now) (M.left_of seals.now) N.accepts world.old world.new (said_in said) op.now count ids.now) }
 {
     let signers = signers_of(alloc, seals, ids)?;
-    world.forge(op, count, signers)
+    let said = world.forge(op, count, signers);
+    world.turns_are_counted();
+    said
 }
